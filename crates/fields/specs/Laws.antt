@@ -1,0 +1,91 @@
+-- The tests and the value of a list as loops carry them along, and the bound of a value.
+use Prim.Native.Nat.{ℕ, zero, suc, _+_, _*_, _^_, _-_, _<_, _≤_}
+use mathlib.Core.Path.{_≡_, refl, sym, ap, _∙_}
+use mathlib.Core.Bool.{Bool, true, false, _&&_, _||_, cond, and-true, or-false, and-assoc, or-assoc, and-false}
+use mathlib.Core.List.{List, [], _∷_}
+use native.Mathlib.Nat.{pow-suc, pow-le-pow-right}
+use native.Mathlib.Numerals.{add-one}
+use native.Mathlib.Omega.{arith}
+use borrow.Author.Tests.{leb-true}
+use lib.Dec.{eqb, leb, lit<}
+use lib.ListN.{length, drop, getD, length-drop}
+use Rattle.laws.specs.Steps.{fold, next, next-two}
+use Rattle.fields.specs.Class.{member, every, allOf, same}
+use Rattle.fields.specs.declared.Class.{Class}
+use Rattle.charset.specs.Table.{rep, text}
+use Rattle.fields.specs.Number.{digitOf, dec}
+use Rattle.fields.specs.Lists.{some, countries}
+
+pub every-fold : {A : Type 0} (test : A → Bool) (a : Bool) (s : List A) → fold (λ (t : Bool) (x : A). t && test x) a s ≡ a && every test s
+every-fold test a [] = sym (and-true a)
+every-fold test a (x ∷ s) = every-fold test (a && test x) s ∙ and-assoc a (test x) (every test s)
+
+pub some-fold : {A : Type 0} (test : A → Bool) (a : Bool) (s : List A) → fold (λ (t : Bool) (x : A). t || test x) a s ≡ a || some test s
+some-fold test a [] = sym (or-false a)
+some-fold test a (x ∷ s) = some-fold test (a || test x) s ∙ or-assoc a (test x) (some test s)
+
+-- a turn over text: b is the replaced character, t the test's answer
+pub text-turn : (page : ℕ) (c : Class) (s : List ℕ) (i : ℕ) (whole t : Bool) (b : ℕ) → i < length s
+    → allOf c (text page (drop i s)) ≡ whole → b ≡ rep page (getD s i 0) → t ≡ member c b
+    → t && allOf c (text page (drop (i + 1) s)) ≡ whole
+unfolding allOf
+text-turn page c s i whole t b h e p q = rw (q, p) (rw (next s i 0 h) at e)
+
+-- a list's countries from place i on
+pub countries-next : (s : List ℕ) (i : ℕ) → i + 1 < length s
+    → countries (drop i s) ≡ (getD s i 0, getD s (i + 1) 0) ∷ countries (drop (i + 2) s)
+countries-next s i h = ap countries (next-two s i h)
+
+lone : (s : List ℕ) → length s ≤ 1 → countries s ≡ []
+lone [] h = refl
+lone (x ∷ []) h = refl
+lone (x ∷ (y ∷ s)) h = absurd (omega arith)
+
+pub countries-over : (s : List ℕ) (i : ℕ) → length s - i ≤ 1 → countries (drop i s) ≡ []
+countries-over s i h = lone (drop i s) (simp length-drop h)
+
+-- lists of different lengths are not the same
+pub unlike : (s t : List ℕ) → (length s ≡ length t → ⊥) → same s t ≡ false
+unfolding same
+unlike [] [] h = absurd (h refl)
+unlike [] (y ∷ t) h = refl
+unlike (x ∷ s) [] h = refl
+unlike (x ∷ s) (y ∷ t) h = rw (unlike s t (λ e. h (ap suc e))) (and-false (eqb x y))
+
+pub and-left : (a b : Bool) → a && b ≡ true → a ≡ true
+and-left true b e = refl
+and-left false b e = e
+
+pub and-right : (a b : Bool) → a && b ≡ true → b ≡ true
+and-right true b e = e
+and-right false b e = cc
+
+pub digit-lt : (b : ℕ) → digitOf b < 10
+digit-lt b = go (leb 48 b) (leb b 57) refl
+  where
+    go : (low high : Bool) → leb b 57 ≡ high → cond (low && high) (b - 48) 0 < 10
+    go true true e = omega (arith, leb-true b 57 e)
+    go true false e = lit< tt
+    go false high e = lit< tt
+
+pub tens-le : (i n : ℕ) → i ≤ n → 10 ^ i ≤ 10 ^ n
+tens-le i n h = pow-le-pow-right {n = 10} (lit< tt) h
+
+-- one digit more
+pub digits-more : (v d i : ℕ) → v < 10 ^ i → d < 10 → v * 10 + d < 10 ^ (i + 1)
+digits-more v d i h k = rw (add-one i, pow-suc) (omega arith)
+
+fold-lt : (s : List ℕ) (v i : ℕ) → v < 10 ^ i → fold (λ (v b : ℕ). v * 10 + digitOf b) v s < 10 ^ (i + length s)
+fold-lt [] v i h =
+    let e : i + 0 ≡ i = omega arith in
+    rw e h
+fold-lt (x ∷ s) v i h =
+    let e : i + suc (length s) ≡ i + 1 + length s = omega arith in
+    rw e (fold-lt s (v * 10 + digitOf x) (i + 1) (digits-more v (digitOf x) i h (digit-lt x)))
+
+-- n digits write a number below 10 ^ n
+pub dec-lt : (s : List ℕ) (n : ℕ) → length s ≤ n → dec s < 10 ^ n
+unfolding dec
+dec-lt s n h =
+    let e : 0 + length s ≡ length s = omega arith in
+    omega (arith, rw e at (fold-lt s 0 0 (lit< tt)), tens-le (length s) n h)

@@ -1,0 +1,5 @@
+pub mod Class
+pub mod Number
+pub mod Bic
+pub mod Lists
+pub mod Laws

@@ -1,0 +1,9 @@
+-- Quoted text in specs as the bytes that a file holds: `ascii "EUR"` is 69, 85, 82. `code "A"` is 65.
+use Prim.Native.Nat.{ℕ}
+use Prim.Native.Char.{code}
+use Prim.Native.String.{String, [], _∷_}
+use mathlib.Core.List.{List, [] as none, _∷_ as _then_}
+
+abbrev pub ascii : String → List ℕ
+ascii [] = none
+ascii (c ∷ s) = code c then ascii s

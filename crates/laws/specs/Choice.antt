@@ -1,0 +1,53 @@
+-- A choice by a test, `cond b x y`, and how a proof goes down a nest of choices one test at a time.
+-- Each law says: with the test decided as it was, what equals the chosen side equals the choice. `search picks` finds
+-- the tests among what is known at a place of the code.
+use Prim.Native.Nat.{ℕ, _<_, _≤_}
+use mathlib.Core.Path.{_≡_, sym, ap, _∙_}
+use mathlib.Core.Bool.{Bool, true, false, cond, not}
+use lib.Dec.{ltb, leb, eqb}
+use borrow.Author.Tests.{lt-ltb, le-ltb, le-leb, lt-leb, eq-eqb, ne-eqb, not-true, not-false}
+
+pub on : {A : Type 0} {x z : A} {b : Bool} (y : A) → b ≡ true → z ≡ x → z ≡ cond b x y
+on {x = x} y e h = h ∙ ap (λ (t : Bool). cond t x y) (sym e)
+
+pub off : {A : Type 0} {y z : A} {b : Bool} (x : A) → b ≡ false → z ≡ y → z ≡ cond b x y
+off {y = y} x e h = h ∙ ap (λ (t : Bool). cond t x y) (sym e)
+
+-- tests of two numbers
+pub on-eq : {A : Type 0} {x z : A} {a b : ℕ} (y : A) → a ≡ b → z ≡ x → z ≡ cond (eqb a b) x y
+on-eq y t h = on y (eq-eqb _ _ t) h
+
+pub off-eq : {A : Type 0} {y z : A} {a b : ℕ} (x : A) → (a ≡ b → ⊥) → z ≡ y → z ≡ cond (eqb a b) x y
+off-eq x t h = off x (ne-eqb _ _ t) h
+
+pub on-lt : {A : Type 0} {x z : A} {a b : ℕ} (y : A) → a < b → z ≡ x → z ≡ cond (ltb a b) x y
+on-lt y t h = on y (lt-ltb _ _ t) h
+
+pub off-lt : {A : Type 0} {y z : A} {a b : ℕ} (x : A) → b ≤ a → z ≡ y → z ≡ cond (ltb a b) x y
+off-lt x t h = off x (le-ltb _ _ t) h
+
+pub on-le : {A : Type 0} {x z : A} {a b : ℕ} (y : A) → a ≤ b → z ≡ x → z ≡ cond (leb a b) x y
+on-le y t h = on y (le-leb _ _ t) h
+
+pub off-le : {A : Type 0} {y z : A} {a b : ℕ} (x : A) → b < a → z ≡ y → z ≡ cond (leb a b) x y
+off-le x t h = off x (lt-leb _ _ t) h
+
+-- a test that another function made: r is what it answered, b what its contract says
+pub on-call : {A : Type 0} {x z : A} {b r : Bool} (y : A) → r ≡ b → r ≡ true → z ≡ x → z ≡ cond b x y
+on-call y e t h = on y (sym e ∙ t) h
+
+pub off-call : {A : Type 0} {y z : A} {b r : Bool} (x : A) → r ≡ b → r ≡ false → z ≡ y → z ≡ cond b x y
+off-call x e t h = off x (sym e ∙ t) h
+
+pub on-not : {A : Type 0} {x z : A} {b r : Bool} (y : A) → r ≡ b → not r ≡ false → z ≡ x → z ≡ cond b x y
+on-not y e t h = on y (sym e ∙ not-false _ t) h
+
+pub off-not : {A : Type 0} {y z : A} {b r : Bool} (x : A) → r ≡ b → not r ≡ true → z ≡ y → z ≡ cond b x y
+off-not x e t h = off x (sym e ∙ not-true _ t) h
+
+pub ruleset picks = (on-eq, off-eq, on-lt, off-lt, on-le, off-le, on-call, off-call, on-not, off-not)
+
+-- what holds of both sides holds of the choice
+pub either : {A : Type 0} (P : A → Type 0) (b : Bool) (x y : A) → P x → P y → P (cond b x y)
+either P true x y p q = p
+either P false x y p q = q

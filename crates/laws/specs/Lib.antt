@@ -1,0 +1,5 @@
+pub mod Ascii
+pub mod Choice
+pub mod Scan
+pub mod Steps
+pub mod Values

@@ -1,0 +1,1 @@
+// Laws only, in specs/: no function.
