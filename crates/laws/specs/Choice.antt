@@ -2,8 +2,8 @@
 -- Each law says: with the test decided as it was, what equals the chosen side equals the choice. `search picks` finds
 -- the tests among what is known at a place of the code.
 use Prim.Native.Nat.{ℕ, _<_, _≤_}
-use mathlib.Core.Path.{_≡_, sym, ap, _∙_}
-use mathlib.Core.Bool.{Bool, true, false, cond, not}
+use mathlib.Core.Path.{_≡_, sym, ap, ap₂, _∙_}
+use mathlib.Core.Bool.{Bool, true, false, cond, not, _&&_, _||_}
 use lib.Dec.{ltb, leb, eqb}
 use borrow.Author.Tests.{lt-ltb, le-ltb, le-leb, lt-leb, eq-eqb, ne-eqb, not-true, not-false}
 
@@ -46,6 +46,17 @@ pub off-not : {A : Type 0} {y z : A} {b r : Bool} (x : A) → r ≡ b → not r 
 off-not x e t h = off x (sym e ∙ not-true _ t) h
 
 pub ruleset picks = (on-eq, off-eq, on-lt, off-lt, on-le, off-le, on-call, off-call, on-not, off-not)
+
+-- the same choice, by a test and a first side that are known by other names
+pub same-choice : {A : Type 0} {b b' : Bool} {x x' z : A} (y : A) → z ≡ cond b x y → b ≡ b' → x ≡ x' → z ≡ cond b' x' y
+same-choice {A = A} y e p q = e ∙ ap₂ (λ (t : Bool) (v : A). cond t v y) p q
+
+-- the first test decides; r is what a function answered of it
+pub or-on : {a r : Bool} (b : Bool) → r ≡ a → r ≡ true → a || b ≡ true
+or-on b e t = ap (λ (u : Bool). u || b) (sym e ∙ t)
+
+pub and-off : {a r : Bool} (b : Bool) → r ≡ a → r ≡ false → a && b ≡ false
+and-off b e t = ap (λ (u : Bool). u && b) (sym e ∙ t)
 
 -- what holds of both sides holds of the choice
 pub either : {A : Type 0} (P : A → Type 0) (b : Bool) (x y : A) → P x → P y → P (cond b x y)

@@ -1,8 +1,11 @@
 -- Every field lies in its record: what `part` asks before it hands the bytes out.
-use Prim.Native.Nat.{ℕ, _≤_}
-use mathlib.Core.Path.{_≡_}
+use Prim.Native.Nat.{ℕ, _-_, _≤_}
+use mathlib.Core.Path.{_≡_, ap, _∙_}
+use mathlib.Core.List.{List}
+use native.Mathlib.Omega.{arith}
 use mathlib.Core.Bool.{_&&_}
 use lib.Dec.{leb, leb→le, T}
+use lib.ListN.{length, length-take, length-drop}
 use Rattle.records.specs.declared.Span.{Span}
 use Rattle.records.specs.declared.QField.{QField}
 use Rattle.records.specs.declared.QField.the-variants.{Q3, Q4, Q5, Q6, Q7, Q8, Q9, Q10, Q11, Q12}
@@ -10,7 +13,7 @@ use Rattle.records.specs.declared.TField.{TField}
 use Rattle.records.specs.declared.TField.the-variants.{T3, T4a, T4b, T5, T6, T7a, T7b, T8, T9a, T9b, T10a, T10b, T11, T12, T13, T14a, T14b, T15, T16, T17, T18, T19, T20, T21, T22, T23, T24, T25, T26, T27}
 use Rattle.records.specs.declared.ZField.{ZField}
 use Rattle.records.specs.declared.ZField.the-variants.{Z3, Z4, Z5}
-use Rattle.records.specs.Places.{qPlace, tPlace, zPlace}
+use Rattle.records.specs.Places.{qPlace, tPlace, zPlace, part}
 
 abbrev pub Inside : ℕ → Span → Type 0
 Inside n s = (s .start ≤ s .end) × (s .end ≤ n)
@@ -70,3 +73,13 @@ z-inside Z5 = here (tt, tt)
 -- of a place that is another's, and of the record itself
 pub inside : {n m : ℕ} {s r : Span} → r ≡ s → Inside n s → m ≡ n → Inside m r
 inside e h l = rw (e, l) h
+
+-- what a function that hands out the bytes at a place promises; that they are so many follows, and is said for its callers
+pub record Held (s : Span) (rec xs : List ℕ) : Type 0 where
+  pub bytes : xs ≡ part s rec
+  pub long : length xs ≡ s .end - s .start
+
+pub held : {n : ℕ} {xs : List ℕ} (s : Span) (rec : List ℕ) → xs ≡ part s rec → Inside n s → length rec ≡ n → Held s rec xs
+unfolding part
+held s rec e h l =
+    record { bytes = e; long = ap length e ∙ simp (length-take, length-drop) (omega (arith, h .0, h .1)) }

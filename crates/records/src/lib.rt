@@ -2,6 +2,7 @@
 ghost use mathlib.Core.Path.{_≡_};
 ghost use Prim.Native.Nat.{_≤_, _<_};
 ghost use lib.ListN.{length};
+ghost use Rattle.records.specs.Inside.{Held};
 ghost use Rattle.records.specs.Places.{_to_, recordAt, lineOf, part, qPlace, tPlace, zPlace, qText, tText};
 
 // A place in a record: the first offset, and the one after the last.
@@ -95,7 +96,7 @@ impl Q {
     // The bytes of a field.
     pub fn field(rec: &[u8], field: QField) -> &[u8]
         requires { ⌜ length (now rec) ≡ 256 ⌝ }
-        ensures { λ r. ⌜ now r ≡ part (qPlace field) (now (rec .entry)) ⌝ }
+        ensures { λ r. ⌜ Held (qPlace field) (now (rec .entry)) (now r) ⌝ }
     {
         part(rec, Q::place(field))
     }
@@ -192,7 +193,7 @@ impl T {
     // The bytes of a field.
     pub fn field(rec: &[u8], field: TField) -> &[u8]
         requires { ⌜ length (now rec) ≡ 768 ⌝ }
-        ensures { λ r. ⌜ now r ≡ part (tPlace field) (now (rec .entry)) ⌝ }
+        ensures { λ r. ⌜ Held (tPlace field) (now (rec .entry)) (now r) ⌝ }
     {
         part(rec, T::place(field))
     }
@@ -242,7 +243,7 @@ impl Z {
     // The bytes of a field.
     pub fn field(rec: &[u8], field: ZField) -> &[u8]
         requires { ⌜ length (now rec) ≡ 256 ⌝ }
-        ensures { λ r. ⌜ now r ≡ part (zPlace field) (now (rec .entry)) ⌝ }
+        ensures { λ r. ⌜ Held (zPlace field) (now (rec .entry)) (now r) ⌝ }
     {
         part(rec, Z::place(field))
     }
