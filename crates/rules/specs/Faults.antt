@@ -3,7 +3,9 @@ use Prim.Native.Nat.{ℕ}
 use mathlib.Core.Bool.{cond}
 use mathlib.Core.List.{List, [], _∷_}
 use lib.Dec.{eqb}
-use Rattle.rules.specs.Rules.{rule10, rule11, rule12, rule13, rule14, rule15, rule16, rule20, rule21, rule22, rule23, rule24, rule25, rule26, rule27, rule28, rule29, rule30, rule31, rule32, rule33, rule34, rule35, rule40, rule41, rule42}
+use Rattle.rules.specs.Q.{rule10, rule11, rule12, rule13, rule14, rule15, rule16}
+use Rattle.rules.specs.T.{rule20, rule21, rule22, rule23, rule24, rule25, rule26, rule27, rule28, rule29, rule30, rule31, rule32, rule33, rule34, rule35}
+use Rattle.rules.specs.Z.{rule40, rule41, rule42}
 
 -- the answer beside a rule's number
 abbrev pub byNumber : List (ℕ × ℕ) → ℕ → ℕ

@@ -1,2 +1,5 @@
-pub mod Rules
+pub mod Wrong
+pub mod Q
+pub mod T
+pub mod Z
 pub mod Faults

@@ -1,5 +1,5 @@
 use borrow.Author.Needs.{needs}
-use Rattle.rules.specs.Rules.{lineBlank}
+use Rattle.rules.specs.Wrong.{lineBlank}
 use Rattle.rules.proofs.line_blank.Statement.{statement}
 use Rattle.rules.proofs.line_blank.Tie as tie
 

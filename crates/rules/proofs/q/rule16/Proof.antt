@@ -1,0 +1,13 @@
+use borrow.Author.Needs.{needs}
+use Rattle.rules.specs.Q.{rule16}
+use Rattle.rules.proofs.q.rule16.Statement.{statement}
+use Rattle.rules.proofs.q.rule16.Tie as tie
+
+pub rule16-spec : {M : Type 1} → statement M
+unfolding rule16
+rule16-spec =
+    tie.close
+    (tie.spec
+    (λ c κs. search needs)
+    (λ c κs. search needs)
+    (λ c. cc))

@@ -1,0 +1,18 @@
+-- How a rule of document 01 is stated: fields as they should be, in the order in which they are read.
+-- A rule answers 0 where the record keeps it, else the offset of the lowest-placed field that breaks it (fields start at
+-- 5, so 0 is free). Rules read text only as replaced characters.
+use Prim.Native.Nat.{ℕ}
+use mathlib.Core.Bool.{Bool, cond}
+use mathlib.Core.List.{List, [], _∷_}
+use Rattle.records.specs.Places.{part, lineOf}
+use Rattle.records.specs.declared.Span.{Span}
+use Rattle.fields.specs.Class.{blank}
+
+-- the offset of the first field that is not as it should be
+abbrev pub firstWrong : List (ℕ × Bool) → ℕ
+firstWrong [] = 0
+firstWrong (row ∷ rows) = cond (row .1) (firstWrong rows) (row .0)
+
+-- line k of a field is blank
+unfoldable pub lineBlank : ℕ → List ℕ → Span → ℕ → Bool
+lineBlank page rec field k = blank page (part (lineOf field k) rec)
