@@ -2,7 +2,7 @@
 -- Each law says: with the test decided as it was, what equals the chosen side equals the choice. `search picks` finds
 -- the tests among what is known at a place of the code.
 use Prim.Native.Nat.{ℕ, _<_, _≤_}
-use mathlib.Core.Path.{_≡_, sym, ap, ap₂, _∙_}
+use mathlib.Core.Path.{_≡_, sym, ap, ap₂, subst, _∙_}
 use mathlib.Core.Bool.{Bool, true, false, cond, not, _&&_, _||_}
 use lib.Dec.{ltb, leb, eqb}
 use borrow.Author.Tests.{lt-ltb, le-ltb, le-leb, lt-leb, eq-eqb, ne-eqb, not-true, not-false}
@@ -45,7 +45,14 @@ on-not y e t h = on y (sym e ∙ not-false _ t) h
 pub off-not : {A : Type 0} {y z : A} {b r : Bool} (x : A) → r ≡ b → not r ≡ true → z ≡ y → z ≡ cond b x y
 off-not x e t h = off x (sym e ∙ not-true _ t) h
 
-pub ruleset picks = (on-eq, off-eq, on-lt, off-lt, on-le, off-le, on-call, off-call, on-not, off-not)
+-- a test against a number r that another function answered
+pub on-below : {A : Type 0} {x z : A} {a b r : ℕ} (y : A) → r ≡ b → a < r → z ≡ x → z ≡ cond (ltb a b) x y
+on-below {a = a} y e t h = on-lt y (subst (λ (n : ℕ). a < n) e t) h
+
+pub off-below : {A : Type 0} {y z : A} {a b r : ℕ} (x : A) → r ≡ b → r ≤ a → z ≡ y → z ≡ cond (ltb a b) x y
+off-below {a = a} x e t h = off-lt x (subst (λ (n : ℕ). n ≤ a) e t) h
+
+pub ruleset picks = (on-eq, off-eq, on-lt, off-lt, on-le, off-le, on-call, off-call, on-not, off-not, on-below, off-below)
 
 -- the same choice, by a test and a first side that are known by other names
 pub same-choice : {A : Type 0} {b b' : Bool} {x x' z : A} (y : A) → z ≡ cond b x y → b ≡ b' → x ≡ x' → z ≡ cond b' x' y

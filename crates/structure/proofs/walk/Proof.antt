@@ -1,0 +1,88 @@
+-- The records before k were passed; what the search from k on tells is what the whole search tells.
+use borrow.Author.Needs.{needs}
+use native.Mathlib.Omega.{arith}
+use Prim.Native.Nat.{ℕ, _+_, _*_, _-_, _≤_, _<_}
+use Prim.Native.Char.{code}
+use mathlib.Core.Path.{_≡_, refl, sym, ap, _∙_}
+use mathlib.Core.List.{List}
+use lib.ListN.{length, getD}
+use Rattle.laws.specs.Choice.{on-lt, off-lt}
+use Rattle.laws.specs.Scan.{first, goes, leaves}
+use Rattle.structure.specs.Slots.{place-is, slotAt}
+use Rattle.structure.specs.Walk.{stops, told, faultIn, structureOf}
+use Rattle.structure.specs.Whole.{whole, length-low, z-later}
+use Rattle.structure.specs.Fits.{Passed, passed-room}
+use Rattle.structure.specs.Turns.{passed, hands-on, stops-broken, stops-z}
+use Rattle.structure.specs.declared.Shape.{Shape}
+use Rattle.structure.specs.declared.Shape.the-variants.{Refused}
+use Rattle.structure.proofs.walk.Statement.{statement}
+use Rattle.structure.proofs.walk.Tie as tie
+
+abbrev from : List ℕ → ℕ → Shape
+from file k = first (stops file) (told file) (Refused 2 10001) k 10001
+
+abbrev Inv-loop : tie.InvT-loop
+Inv-loop file k₀ k = (768 * k - 512 ≤ length file) × (from file k ≡ from file 0)
+
+abbrev μ-loop : tie.MeasureT-loop
+μ-loop file k₀ k = 10001 - k
+
+slot-requires : tie.Need-slot-requires Inv-loop μ-loop
+slot-requires c κs = omega (arith, place-is (c .loop .k))
+
+returns : tie.Need-returns Inv-loop μ-loop
+unfolding structureOf
+returns c = on-lt _ (c .if1 .taken) refl
+
+-- the record at which the loop stands is passed
+passed-here : (c : tie.Else3 Inv-loop μ-loop) → Passed (c .before .before .before .before .before .before .before .before .args .file .now) (c .before .before .before .before .before .loop .k)
+passed-here c = passed _ _ _ _ (c .before .before .before .before .slot .ensures) (c .before .before .before .fault-in .ensures) (c .before .before .if2 .left) (c .if3 .left)
+
+returns-2 : tie.Need-returns-2 Inv-loop μ-loop
+unfolding structureOf
+returns-2 c =
+    off-lt _ (c .before .before .before .before .if1 .left)
+    (leaves _ _ _ _ _ _ (omega arith) (c .before .before .before .loop .inv .1)
+    (stops-broken _ _ _ _ (c .before .before .slot .ensures) (c .before .fault-in .ensures) (c .if2 .taken) _))
+
+read-letter : tie.Need-shared-slice-read-if3 Inv-loop μ-loop
+read-letter c =
+    let w = whole _ _ (sym (c .before .before .fault-in .ensures) ∙ c .before .if2 .left) in
+    omega (arith, w .long, length-low (getD (c .before .before .before .slot .result .now) 4 0))
+
+sub-z : tie.Need-sub-t10 Inv-loop μ-loop
+sub-z c =
+    let w = whole _ _ (sym (c .before .before .before .fault-in .ensures) ∙ c .before .before .if2 .left) in
+    omega (arith, z-later (c .before .before .before .before .before .loop .k) _ (c .if3 .taken) (w .here))
+
+returns-3 : tie.Need-returns-3 Inv-loop μ-loop
+unfolding structureOf
+returns-3 c =
+    off-lt _ (c .before .before .before .before .before .before .if1 .left)
+    (leaves _ _ _ _ _ _ (omega arith) (c .before .before .before .before .before .loop .inv .1)
+    (stops-z _ _ _ _ (c .before .before .before .before .slot .ensures) (c .before .before .before .fault-in .ensures) (c .before .before .if2 .left) (c .if3 .taken) _))
+
+loop-again : tie.Need-loop-again Inv-loop μ-loop
+loop-again c = (
+  passed-room _ _ (passed-here c),
+  goes _ _ _ _ _ (omega arith) (c .before .before .before .before .before .loop .inv .1)
+      (hands-on _ _ _ _ (c .before .before .before .before .slot .ensures) (c .before .before .before .fault-in .ensures) (passed-here c) _),
+)
+
+pub walk-spec : {M : Type 1} → statement M
+walk-spec =
+    tie.close
+    (tie.spec
+    Inv-loop
+    μ-loop
+    returns
+    (λ c. (search needs, refl))
+    slot-requires
+    (λ c κs. search needs)
+    returns-2
+    read-letter
+    sub-z
+    returns-3
+    (λ c. search needs)
+    (λ c. omega arith)
+    loop-again)

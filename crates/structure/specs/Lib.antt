@@ -1,0 +1,5 @@
+pub mod Slots
+pub mod Walk
+pub mod Whole
+pub mod Fits
+pub mod Turns
