@@ -1,4 +1,4 @@
-// Rules 10 to 42: the place of the field that breaks a rule in one record, or 0.
+// Rules of the Q record, 10 to 16, and of the Z record, 40 to 42: the place of the field that breaks a rule, or 0.
 use records::Span;
 ghost use mathlib.Core.Path.{_≡_};
 ghost use Prim.Native.Nat.{_+_, _≤_};
@@ -6,11 +6,10 @@ ghost use lib.ListN.{length};
 ghost use Rattle.rules.specs.Wrong.{lineBlank};
 
 pub mod q;
-pub mod t;
 pub mod z;
 
 // Line k of a field is blank.
-fn line_blank(page: u32, rec: &[u8], field: Span, k: usize) -> bool
+pub fn line_blank(page: u32, rec: &[u8], field: Span, k: usize) -> bool
     requires { ⌜ (field .start + 140 ≤ length (now rec)) × ((length (now rec) ≤ 768) × ((1 ≤ k) × (k ≤ 4))) ⌝ }
     ensures { λ r. ⌜ r ≡ lineBlank page (now (rec .entry)) field k ⌝ }
 {

@@ -1,0 +1,40 @@
+-- The first broken rule: in a run of rules, and in a run of records with rules each. `F k rule` is what rule says of
+-- record k: 0, or the place of the field that breaks it.
+use Prim.Native.Nat.{ℕ, _<_}
+use mathlib.Core.Path.{_≡_, refl, ap}
+use mathlib.Core.Bool.{Bool, not}
+use native.Mathlib.Omega.{arith}
+use borrow.Author.Tests.{ne-eqb}
+use lib.Dec.{eqb}
+use Rattle.laws.specs.Choice.{on}
+use Rattle.laws.specs.Scan.{first, orElse}
+use Rattle.judge.specs.declared.Broken.{Broken}
+
+abbrev pub breaks : (ℕ → ℕ → ℕ) → ℕ → ℕ → Bool
+breaks F k rule = not (eqb (F k rule) 0)
+
+-- the first broken rule of record k, from lo k up to below hi k, or 0
+abbrev pub firstRule : (ℕ → ℕ → ℕ) → (ℕ → ℕ) → (ℕ → ℕ) → ℕ → ℕ
+firstRule F lo hi k = first (breaks F k) (λ rule. rule) 0 (lo k) (hi k)
+
+abbrev pub faulty : (ℕ → ℕ → ℕ) → (ℕ → ℕ) → (ℕ → ℕ) → ℕ → Bool
+faulty F lo hi k = not (eqb (firstRule F lo hi k) 0)
+
+abbrev pub toldAt : (ℕ → ℕ → ℕ) → (ℕ → ℕ) → (ℕ → ℕ) → ℕ → Broken
+toldAt F lo hi k = record { number = firstRule F lo hi k; rec = k }
+
+abbrev pub none : Broken
+none = record { number = 0; rec = 0 }
+
+-- the first broken rule of the first record that breaks one, of the records below n
+abbrev pub firstBroken : (ℕ → ℕ → ℕ) → (ℕ → ℕ) → (ℕ → ℕ) → ℕ → Broken
+firstBroken F lo hi n = first (faulty F lo hi) (toldAt F lo hi) none 0 n
+
+pub same-fault : {a b c d : ℕ} → a ≡ c → b ≡ d → _≡_ {A = Broken} (record { number = a; rec = b }) (record { number = c; rec = d })
+same-fault p q i = record { number = p i; rec = q i }
+
+-- a record whose first broken rule is known is told so
+pub found : (F : ℕ → ℕ → ℕ) (lo hi : ℕ → ℕ) (k rule : ℕ) (rest : Broken) → 0 < rule → rule ≡ firstRule F lo hi k
+    → record { number = rule; rec = k } ≡ orElse (faulty F lo hi) (toldAt F lo hi) k rest
+found F lo hi k rule rest p e =
+    on rest (ap not (ne-eqb _ _ (λ (q : firstRule F lo hi k ≡ 0). omega arith))) (same-fault e refl)

@@ -1,0 +1,4 @@
+pub mod First
+pub mod Content
+pub mod Sums
+pub mod Verdict

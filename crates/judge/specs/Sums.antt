@@ -1,0 +1,62 @@
+-- The sums over the T records: whole euros of T14a, and cents, "first two digits of T14b, added, not carried into euros".
+-- And a file's number, "the 18 digits of Q4, Q6, Q7 as one whole number".
+use Prim.Native.Nat.{ℕ, zero, suc, _+_, _*_, _^_, _≤_, _<_}
+use mathlib.Core.Path.{_≡_, refl, sym, ap, _∙_}
+use mathlib.Core.List.{List, [], _∷_, _++_}
+use native.Mathlib.Nat.{pow-suc, pow-zero}
+use native.Mathlib.Numerals.{add-one}
+use native.Mathlib.Omega.{arith}
+use lib.ListN.{length}
+use Rattle.laws.specs.Steps.{fold}
+use Rattle.records.specs.Places.{_to_, part}
+use Rattle.records.specs.declared.TField.the-variants.{T14a, T14b}
+use Rattle.records.specs.declared.QField.the-variants.{Q4, Q6, Q7}
+use Rattle.fields.specs.Number.{digitOf, dec}
+use Rattle.rules.specs.Q.{inQ}
+use Rattle.payments.specs.Rules.{inT}
+use Rattle.structure.specs.Slots.{slotAt}
+
+-- the sum of f over records 1 to n
+abbrev pub total : (ℕ → ℕ) → ℕ → ℕ
+total f zero = 0
+total f (suc n) = total f n + f (suc n)
+
+abbrev pub euros : List ℕ → ℕ
+euros rec = dec (inT T14a rec)
+
+abbrev pub cents : List ℕ → ℕ
+cents rec = dec (part (0 to 1) (inT T14b rec))
+
+unfoldable pub euroSum : List ℕ → ℕ → ℕ
+euroSum file n = total (λ (k : ℕ). euros (slotAt file k)) n
+
+unfoldable pub centSum : List ℕ → ℕ → ℕ
+centSum file n = total (λ (k : ℕ). cents (slotAt file k)) n
+
+unfoldable pub fileNumber : List ℕ → ℕ
+fileNumber q = dec (inQ Q4 q ++ (inQ Q6 q ++ inQ Q7 q))
+
+-- each below m: the sum is at most n * m
+pub total-le : (f : ℕ → ℕ) (m n : ℕ) → ((k : ℕ) → f k ≤ m) → total f n ≤ n * m
+total-le f m zero h = omega arith
+total-le f m (suc n) h = omega (arith, total-le f m n h, h (suc n))
+
+pub total-suc : (f : ℕ → ℕ) (n : ℕ) → total f (n + 1) ≡ total f n + f (n + 1)
+total-suc f n = rw (add-one n)
+
+-- digits after digits
+dec-from : (s : List ℕ) (v : ℕ) → fold (λ (v b : ℕ). v * 10 + digitOf b) v s ≡ v * 10 ^ length s + dec s
+unfolding dec
+dec-from [] v = rw (pow-zero 10) (omega arith)
+dec-from (x ∷ s) v =
+    dec-from s (v * 10 + digitOf x)
+    ∙ rw (pow-suc 10 (length s), dec-from s (0 * 10 + digitOf x)) (omega arith)
+
+pub dec-append : (s t : List ℕ) → dec (s ++ t) ≡ dec s * 10 ^ length t + dec t
+unfolding dec
+dec-append s t = go s 0
+  where
+    go : (s : List ℕ) (v : ℕ) → fold (λ (v b : ℕ). v * 10 + digitOf b) v (s ++ t)
+        ≡ fold (λ (v b : ℕ). v * 10 + digitOf b) v s * 10 ^ length t + dec t
+    go [] v = dec-from t v
+    go (x ∷ s) v = go s (v * 10 + digitOf x)

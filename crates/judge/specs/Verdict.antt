@@ -1,0 +1,44 @@
+-- Document 01, "What each call answers": the judge.
+use Prim.Native.Nat.{ℕ}
+use mathlib.Core.Bool.{cond}
+use mathlib.Core.List.{List}
+use lib.Dec.{eqb}
+use Rattle.fields.specs.Lists.{isTaken}
+use Rattle.structure.specs.Slots.{slotAt}
+use Rattle.structure.specs.Walk.{structureOf}
+use Rattle.structure.specs.declared.Shape.{Shape}
+use Rattle.structure.specs.declared.Shape.the-variants.{Fits, Refused}
+use Rattle.judge.specs.Content.{contentOf}
+use Rattle.judge.specs.Sums.{euroSum, centSum, fileNumber}
+use Rattle.judge.specs.declared.Broken.{Broken}
+use Rattle.judge.specs.declared.Verdict.{Verdict}
+
+-- "If refused, these three are 0."
+abbrev pub refused : ℕ → ℕ → Verdict
+refused number rec = record { number = number; rec = rec; payments = 0; euros = 0; cents = 0 }
+
+-- "if 0, record 0, the number of payments, the euro sum of T14a and the cent sum"
+abbrev pub sound : ℕ → ℕ → ℕ → Verdict
+sound payments euros cents = record { number = 0; rec = 0; payments = payments; euros = euros; cents = cents }
+
+-- the refusal of the first broken rule, or else the answer of a sound file
+abbrev pub unless : Broken → Verdict → Verdict
+unless fault verdict = cond (eqb (fault .number) 0) verdict (refused (fault .number) (fault .rec))
+
+abbrev pub verdictBy : Shape → ℕ → List ℕ → List ℕ → List ℕ → Verdict
+verdictBy (Refused number rec) page file transfer cheque = refused number rec
+verdictBy (Fits n) page file transfer cheque =
+    unless (contentOf page file n (euroSum file n) transfer cheque) (sound n (euroSum file n) (centSum file n))
+
+-- structure, then content: what the desk finds of a file, on a code page and with both country lists
+unfoldable pub verdictOf : ℕ → List ℕ → List ℕ → List ℕ → Verdict
+verdictOf page file transfer cheque = verdictBy (structureOf file) page file transfer cheque
+
+-- "Rule 50 belongs to the judge alone and comes after all others"; "For 50, the record is 0."
+abbrev pub orTaken : Verdict → List ℕ → List ℕ → Verdict
+orTaken verdict file taken =
+    cond (eqb (verdict .number) 0) (cond (isTaken taken (fileNumber (slotAt file 0))) (refused 50 0) verdict) verdict
+
+-- the calls of document 01 read text on page 0
+unfoldable pub judgeOf : List ℕ → List ℕ → List ℕ → List ℕ → Verdict
+judgeOf file transfer cheque taken = orTaken (verdictOf 0 file transfer cheque) file taken
