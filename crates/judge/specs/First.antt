@@ -1,12 +1,11 @@
 -- The first broken rule: in a run of rules, and in a run of records with rules each. `F k rule` is what rule says of
 -- record k: 0, or the place of the field that breaks it.
 use Prim.Native.Nat.{ℕ, _<_}
-use mathlib.Core.Path.{_≡_, refl, ap}
+use mathlib.Core.Path.{_≡_, refl}
 use mathlib.Core.Bool.{Bool, not}
 use native.Mathlib.Omega.{arith}
-use borrow.Author.Tests.{ne-eqb}
 use lib.Dec.{eqb}
-use Rattle.laws.specs.Choice.{on}
+use Rattle.laws.specs.Choice.{on-ne}
 use Rattle.laws.specs.Scan.{first, orElse}
 use Rattle.judge.specs.declared.Broken.{Broken}
 
@@ -37,4 +36,4 @@ same-fault p q i = record { number = p i; rec = q i }
 pub found : (F : ℕ → ℕ → ℕ) (lo hi : ℕ → ℕ) (k rule : ℕ) (rest : Broken) → 0 < rule → rule ≡ firstRule F lo hi k
     → record { number = rule; rec = k } ≡ orElse (faulty F lo hi) (toldAt F lo hi) k rest
 found F lo hi k rule rest p e =
-    on rest (ap not (ne-eqb _ _ (λ (q : firstRule F lo hi k ≡ 0). omega arith))) (same-fault e refl)
+    on-ne {r = firstRule F lo hi k} rest refl (λ q. omega arith) (same-fault e refl)

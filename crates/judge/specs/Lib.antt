@@ -1,4 +1,5 @@
 pub mod First
 pub mod Content
+pub mod ByKind
 pub mod Sums
 pub mod Verdict

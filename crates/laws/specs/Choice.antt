@@ -52,6 +52,13 @@ on-below {a = a} y e t h = on-lt y (subst (λ (n : ℕ). a < n) e t) h
 pub off-below : {A : Type 0} {y z : A} {a b r : ℕ} (x : A) → r ≡ b → r ≤ a → z ≡ y → z ≡ cond (ltb a b) x y
 off-below {a = a} x e t h = off-lt x (subst (λ (n : ℕ). n ≤ a) e t) h
 
+-- a test that a number r, which another function answered, is another than b
+pub on-ne : {A : Type 0} {x z : A} {a b r : ℕ} (y : A) → r ≡ a → (r ≡ b → ⊥) → z ≡ x → z ≡ cond (not (eqb a b)) x y
+on-ne y e t h = on y (ap not (ne-eqb _ _ (λ q. t (e ∙ q)))) h
+
+pub off-ne : {A : Type 0} {y z : A} {a b r : ℕ} (x : A) → r ≡ a → r ≡ b → z ≡ y → z ≡ cond (not (eqb a b)) x y
+off-ne x e t h = off x (ap not (eq-eqb _ _ (sym e ∙ t))) h
+
 pub ruleset picks = (on-eq, off-eq, on-lt, off-lt, on-le, off-le, on-call, off-call, on-not, off-not, on-below, off-below)
 
 -- the same choice, by a test and a first side that are known by other names

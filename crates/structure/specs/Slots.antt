@@ -49,3 +49,17 @@ unfolding slotAt
 slot-full file k at width p q =
     let h : at + width - at ≡ width = omega arith in
     ap (λ (w : ℕ). take w (drop at file)) h ∙ ap₂ (λ (w a : ℕ). take w (drop a file)) q p
+
+-- the slots of a file with n T records
+module _ (file : List ℕ) (n : ℕ) (long : length file ≡ 512 + 768 * n) where
+  pub q-long : length (slotAt file 0) ≡ 256
+  q-long = slot-length file 0 ∙ omega arith
+
+  pub t-long : (k : ℕ) → 1 ≤ k → k ≤ n → length (slotAt file k) ≡ 768
+  t-long k h l = omega (arith, rw (later-width k h) at (slot-length file k))
+
+  pub z-long : length (slotAt file (n + 1)) ≡ 256
+  z-long = omega (arith, rw (later-width (n + 1) (omega arith)) at (slot-length file (n + 1)))
+
+  pub place-in : (k : ℕ) → k ≤ n + 1 → recordAt k ≤ length file
+  place-in k h = omega (arith, place-is k)
