@@ -3,3 +3,4 @@ pub mod Content
 pub mod ByKind
 pub mod Sums
 pub mod Verdict
+pub mod Told

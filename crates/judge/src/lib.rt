@@ -9,7 +9,7 @@ ghost use Prim.Native.Nat.{ℕ, _+_, _*_, _≤_, _<_};
 ghost use lib.ListN.{length};
 ghost use Rattle.judge.specs.Content.{faultOf, ruleFrom, ruleEnd, contentOf};
 ghost use Rattle.judge.specs.Sums.{euros, cents, euroSum, centSum, fileNumber};
-ghost use Rattle.judge.specs.Verdict.{verdictOf, judgeOf};
+ghost use Rattle.judge.specs.Verdict.{refused, verdictOf, judgeOf};
 
 // The first broken rule and its record; number 0 where none is broken.
 pub struct Broken {
@@ -98,4 +98,104 @@ fn content(page: u32, file: &[u8], n: usize, euros: u64, transfer: &[u8], cheque
         k += 1;
     }
     Broken { number, rec }
+}
+
+// What a payment adds to the sums: whole euros, and cents.
+fn euros_of(rec: &[u8]) -> u64
+    requires { ⌜ length (now rec) ≡ 768 ⌝ }
+    ensures { λ r. ⌜ r ≡ euros (now (rec .entry)) ⌝ }
+{
+    fields::value(T::field(rec, TField::T14a))
+}
+
+fn cents_of(rec: &[u8]) -> u64
+    requires { ⌜ length (now rec) ≡ 768 ⌝ }
+    ensures { λ r. ⌜ r ≡ cents (now (rec .entry)) ⌝ }
+{
+    let t14b = T::field(rec, TField::T14b);
+    fields::value(&t14b[0..2])
+}
+
+pub struct Totals {
+    pub euros: u64,
+    pub cents: u64,
+}
+
+// The sums over the T records. Cents are never carried.
+fn sum(file: &[u8], n: usize) -> Totals
+    requires { ⌜ (length (now file) ≡ 512 + 768 * n) × (n ≤ 9999) ⌝ }
+    ensures { λ r. ⌜ (r .euros ≡ euroSum (now (file .entry)) n) × (r .cents ≡ centSum (now (file .entry)) n) ⌝ }
+{
+    let mut euros: u64 = 0;
+    let mut cents: u64 = 0;
+    let mut k = 0;
+    while k < n {
+        k += 1;
+        let rec = structure::slot(file, k);
+        euros += euros_of(rec);
+        cents += cents_of(rec);
+    }
+    Totals { euros, cents }
+}
+
+// The 18 digits of Q4, Q6 and Q7 as one whole number.
+fn number_of(q: &[u8]) -> u64
+    requires { ⌜ length (now q) ≡ 256 ⌝ }
+    ensures { λ r. ⌜ r ≡ fileNumber (now (q .entry)) ⌝ }
+{
+    let q4 = fields::value(Q::field(q, QField::Q4));
+    let q6 = fields::value(Q::field(q, QField::Q6));
+    let q7 = fields::value(Q::field(q, QField::Q7));
+    q4 * 100000000 + q6 * 100 + q7
+}
+
+fn refusal(number: usize, rec: usize) -> Verdict
+    ensures { λ r. ⌜ r ≡ refused number rec ⌝ }
+{
+    Verdict {
+        number,
+        rec,
+        payments: 0,
+        euros: 0,
+        cents: 0,
+    }
+}
+
+// Structure, then content.
+pub fn examine(page: u32, file: &[u8], transfer: &[u8], cheque: &[u8]) -> Verdict
+    ensures { λ r. ⌜ r ≡ verdictOf page (now (file .entry)) (now (transfer .entry)) (now (cheque .entry)) ⌝ }
+{
+    match structure::walk(file) {
+        Shape::Refused(number, rec) => refusal(number, rec),
+        Shape::Fits(n) => {
+            let sums = sum(file, n);
+            let broken = content(page, file, n, sums.euros, transfer, cheque);
+            let number = broken.number;
+            if number != 0 {
+                return refusal(number, broken.rec);
+            }
+            Verdict {
+                number: 0,
+                rec: 0,
+                payments: n,
+                euros: sums.euros,
+                cents: sums.cents,
+            }
+        }
+    }
+}
+
+// The judge of document 01: the verdict on page 0, and then the taken numbers.
+pub fn judge(file: &[u8], transfer: &[u8], cheque: &[u8], taken: &[u64]) -> Verdict
+    ensures { λ r. ⌜ r ≡ judgeOf (now (file .entry)) (now (transfer .entry)) (now (cheque .entry)) (now (taken .entry)) ⌝ }
+{
+    let found = examine(0, file, transfer, cheque);
+    let number = found.number;
+    if number != 0 {
+        return found;
+    }
+    if fields::taken(taken, number_of(structure::slot(file, 0))) {
+        return refusal(50, 0);
+    }
+    found
 }

@@ -34,27 +34,30 @@ abbrev μ-records : tie.MeasureT-records
 
 loop-holds : tie.Need-loop-holds Inv-loop μ-loop Inv-records μ-records
 loop-holds c =
-    let r = c .before .before .before .records in
-    (r .inv .0
-    , r .inv .1
-    , rw (c .before .rule-from .ensures) (rule-real (c .before .before .before .before .before .before .before .args .n) (r .k))
-    , ap₂ (run _ _) (c .before .rule-from .ensures) (c .rule-end .ensures))
+    let r = c .before .before .before .records in (
+      r .inv .0,
+      r .inv .1,
+      rw (c .before .rule-from .ensures) (rule-real (c .before .before .before .before .before .before .before .args .n) (r .k)),
+      ap₂ (run _ _) (c .before .rule-from .ensures) (c .rule-end .ensures),
+    )
 
 loop-again : tie.Need-loop-again Inv-loop μ-loop Inv-records μ-records
 loop-again c =
-    let l = c .before .before .before .loop in
-    (l .inv .0
-    , l .inv .1
-    , omega arith
-    , goes _ _ _ _ _ (c .before .before .loop-test .taken) (l .inv .3) (off-ne _ (c .before .fault .ensures) (c .if1 .left) refl))
+    let l = c .before .before .before .loop in (
+      l .inv .0,
+      l .inv .1,
+      omega arith,
+      goes _ _ _ _ _ (c .before .before .loop-test .taken) (l .inv .3) (off-ne _ (c .before .fault .ensures) (c .if1 .left) refl),
+    )
 
 records-again : tie.Need-records-again Inv-loop μ-loop Inv-records μ-records
 records-again c =
-    let l = c .before .loop in
-    (l .inv .0
-    , l .inv .1
-    , goes _ _ _ _ _ (c .before .before .before .before .records-test .taken) (c .before .before .before .before .before .records .inv .2)
-    (off-ne _ refl (sym (ends _ _ _ _ _ (c .loop-test .left) (l .inv .3))) refl))
+    let l = c .before .loop in (
+      l .inv .0,
+      l .inv .1,
+      goes _ _ _ _ _ (c .before .before .before .before .records-test .taken) (c .before .before .before .before .before .records .inv .2)
+          (off-ne _ refl (sym (ends _ _ _ _ _ (c .loop-test .left) (l .inv .3))) refl),
+    )
 
 returns : tie.Need-returns Inv-loop μ-loop Inv-records μ-records
 unfolding contentOf
