@@ -1,0 +1,20 @@
+use borrow.Author.Needs.{needs}
+use mathlib.Core.Path.{refl, ap, _∙_}
+use Rattle.records.specs.Places.{part}
+use Rattle.records.specs.Inside.{inside}
+use Rattle.records.specs.declared.Span.{Span}
+use Rattle.show.specs.Shown.{shownOf, shown-inside}
+use Rattle.show.proofs.show.Statement.{statement}
+use Rattle.show.proofs.show.Tie as tie
+
+part-requires : tie.Need-part-requires
+part-requires c κs =
+    let a = c .before .before .args in
+    inside (c .place .ensures) (shown-inside (a .file .now) (a .rec) (a .field)) refl
+
+returns : tie.Need-returns
+unfolding shownOf
+returns c = c .part .ensures ∙ ap (λ (s : Span). part s (c .before .before .before .args .file .now)) (c .before .place .ensures)
+
+pub show-spec : {M : Type 1} → statement M
+show-spec = tie.close (tie.spec (λ c κs. search needs) part-requires returns)
