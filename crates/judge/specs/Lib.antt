@@ -4,3 +4,4 @@ pub mod ByKind
 pub mod Sums
 pub mod Verdict
 pub mod Told
+pub mod Meaning
