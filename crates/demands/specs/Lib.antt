@@ -1,1 +1,3 @@
 pub mod Cases
+pub mod Broken
+pub mod Demand2
