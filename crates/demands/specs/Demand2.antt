@@ -13,7 +13,7 @@ module _ (page : ℕ) (transfer cheque file : List ℕ) where
     pub there : (number ≡ 0 → ⊥) → Broken page transfer cheque file number rec
     pub first : (m j : ℕ) → Before m j number rec → Broken page transfer cheque file m j → ⊥
 
-pub Judged : Type 0
+abbrev pub Judged : Type 0
 Judged =
     (page : ℕ) (transfer cheque file : List ℕ)
     → Answered page transfer cheque file (verdictOf page file transfer cheque .number) (verdictOf page file transfer cheque .rec)
