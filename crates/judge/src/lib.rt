@@ -43,12 +43,12 @@ fn fault(
     if k == 0 {
         return rules::q::fault(page, structure::slot(file, 0), rule);
     }
-    let rec = structure::slot(file, k);
+    let slot = structure::slot(file, k);
     if k <= n {
         let key = payments::key(structure::slot(file, 1));
-        return payments::fault(page, transfer, cheque, key, rec, rule);
+        return payments::fault(page, transfer, cheque, key, slot, rule);
     }
-    rules::z::fault(n as u64, euros, rec, rule)
+    rules::z::fault(n as u64, euros, slot, rule)
 }
 
 // The rules of record k: from its first up to below its end.
