@@ -5,3 +5,4 @@ pub mod Sums
 pub mod Verdict
 pub mod Told
 pub mod Meaning
+pub mod ByRecords
