@@ -6,3 +6,4 @@ pub mod Verdict
 pub mod Told
 pub mod Meaning
 pub mod ByRecords
+pub mod Small

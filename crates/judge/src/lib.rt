@@ -18,6 +18,7 @@ pub struct Broken {
 }
 
 // The judge's answer. Number 0: sound, with the payments and both sums. Else the broken rule, its record, and zeros.
+#[repr(C)]
 pub struct Verdict {
     pub number: usize,
     pub rec: usize,
