@@ -3,10 +3,11 @@
 -- A, O, U and S: page 0 reads them at their DIN 66003 codes, every other page at their ISO 8859-1 codes. Every other byte
 -- becomes a space. The theorem, `rep-rep`: a replaced character is its own replacement, on every page.
 use Prim.Native.Nat.{ℕ, zero, suc}
-use mathlib.Core.Path.{_≡_, refl}
-use mathlib.Core.Bool.{Bool, true, false, _&&_, _||_, cond}
+use mathlib.Core.Path.{_≡_, refl, sym, ap, _∙_}
+use mathlib.Core.Bool.{Bool, true, false, _&&_, _||_, cond, false≢true}
 use mathlib.Core.List.{List, [], _∷_, map}
 use Prim.Native.Char.{code}
+use borrow.Author.Tests.{eq-eqb, ne-eqb}
 use lib.Dec.{eqb, leb, T}
 use Rattle.laws.specs.Ascii.{ascii}
 
@@ -73,6 +74,14 @@ unchanged-rep page b e = rw e
 
 pub rep-rep : (page b : ℕ) → rep page (rep page b) ≡ rep page b
 rep-rep page b = unchanged-rep page (rep page b) (rep-unchanged page b)
+
+-- a character is changed where it is not among the unchanged, whatever the page
+pub changes-are : (page b : ℕ) → eqb (rep page b) b ≡ unchanged b
+changes-are page b = go (unchanged b) refl
+  where
+    go : (kept : Bool) → unchanged b ≡ kept → eqb (rep page b) b ≡ kept
+    go true e = eq-eqb (rep page b) b (unchanged-rep page b e)
+    go false e = ne-eqb (rep page b) b (λ q. false≢true (sym e ∙ ap unchanged (sym q) ∙ rep-unchanged page b))
 
 -- every page but 0 is page 1
 pub other-page : (page b : ℕ) → (page ≡ 0 → ⊥) → rep page b ≡ rep 1 b

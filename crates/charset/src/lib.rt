@@ -1,6 +1,6 @@
 // The character table by code page: one character, and a stretch of text in place.
 ghost use mathlib.Core.Path.{_≡_};
-ghost use Rattle.charset.specs.Table.{rep, text};
+ghost use Rattle.charset.specs.Table.{unchanged, rep, text};
 
 // Row by row of 32 codes. A row that begins with a space is written \x20, since a line's leading spaces do not count.
 const DIN_66003: [u8; 256] = *b"\
@@ -33,6 +33,18 @@ pub fn replaced(page: u32, b: u8) -> u8
     } else {
         ISO_8859_1[i]
     }
+}
+
+// Whether a character stays as it is, on every page. Comparisons alone: a loop over them is compiled to many bytes a step.
+pub fn unchanged(b: u8) -> bool
+    ensures { λ r. ⌜ r ≡ unchanged b ⌝ }
+{
+    ((b'A' <= b) & (b <= b'Z'))
+        | ((b'a' <= b) & (b <= b'z'))
+        | ((b'0' <= b) & (b <= b'9'))
+        | ((b'+' <= b) & (b <= b'/'))
+        | (b == b' ')
+        | (b == b'%')
 }
 
 // A stretch of text is replaced where it stands.
