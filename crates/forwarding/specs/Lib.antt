@@ -8,3 +8,4 @@ pub mod Fields
 pub mod Pieces
 pub mod Noted
 pub mod Numbered
+pub mod Sent

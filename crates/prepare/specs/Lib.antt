@@ -1,2 +1,4 @@
 pub mod Sized
-pub mod Turns
+pub mod Found
+pub mod Counting
+pub mod Placing

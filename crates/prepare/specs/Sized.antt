@@ -12,6 +12,10 @@ pub record Sized (file : List ℕ) : Type 0 where
   pub long : length file ≡ 512 + 768 * payments
   pub most : payments ≤ 9999
 
+-- where Z begins
+abbrev pub zAt : List ℕ → ℕ
+zAt file = length file - 256
+
 -- a place where a T record or Z begins
 pub record Begins (file : List ℕ) (at : ℕ) : Type 0 where
   pub low : 256 ≤ at
@@ -22,10 +26,10 @@ pub begins-first : {file : List ℕ} → Sized file → Begins file 256
 begins-first s = record { low = omega arith; high = omega (arith, s .long); turn = refl }
 
 module _ {file : List ℕ} {at : ℕ} (s : Sized file) (b : Begins file at) where
-  pub begins-last : length file - 256 ≤ at → at + 256 ≡ length file
+  pub begins-last : zAt file ≤ at → at + 256 ≡ length file
   begins-last h = omega (arith, b .high)
 
-  module _ (more : at < length file - 256) where
+  module _ (more : at < zAt file) where
     z-follows : at + 768 + 256 ≤ length file
     z-follows = omega (arith, s .long, b .low, b .turn)
 

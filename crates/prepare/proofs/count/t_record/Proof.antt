@@ -7,9 +7,10 @@ use lib.ListN.{length}
 use Rattle.forwarding.specs.Changes.{changes-few}
 use Rattle.forwarding.specs.Fields.{fieldChanges}
 use Rattle.forwarding.specs.Numbered.{textsBelow}
-use Rattle.prepare.specs.Turns.{field-in, field-short, count-field}
-use Rattle.prepare.proofs.changes_t.Statement.{statement}
-use Rattle.prepare.proofs.changes_t.Tie as tie
+use Rattle.prepare.specs.Found.{t-in, t-short}
+use Rattle.prepare.specs.Counting.{count-field}
+use Rattle.prepare.proofs.count.t_record.Statement.{statement}
+use Rattle.prepare.proofs.count.t_record.Tie as tie
 
 abbrev Inv-loop : tie.InvT-loop
 Inv-loop rec n₀ k₀ n k = (2 ≤ k) × (k ≤ 10) × (n ≤ 140 * k) × (n ≡ fieldChanges (textsBelow k) rec)
@@ -19,14 +20,14 @@ abbrev μ-loop : tie.MeasureT-loop
 
 part-requires : tie.Need-part-requires Inv-loop μ-loop
 part-requires c κs =
-    field-in (c .before .before .loop .k) (search needs) (search needs) (c .text .ensures) (c .before .before .before .before .args .rec .now) (c .before .before .before .before .pre)
+    t-in (c .before .before .loop .k) (search needs) (search needs) (c .text .ensures) (c .before .before .before .before .args .rec .now) (c .before .before .before .before .pre)
 
 short : (c : tie.After-part Inv-loop μ-loop) → length (c .part .result .now) ≤ 140
 short c =
-    field-short (c .before .before .before .loop .k) (search needs) (search needs) (c .before .text .ensures) (c .before .before .before .before .before .args .rec .now) (c .part .ensures)
+    t-short (c .before .before .before .loop .k) (search needs) (search needs) (c .before .text .ensures) (c .before .before .before .before .before .args .rec .now) (c .part .ensures)
 
-few : (c : tie.After-changes Inv-loop μ-loop) → c .changes .result ≤ 140
-few c = omega (arith, c .changes .ensures, changes-few (c .before .part .result .now), short (c .before))
+few : (c : tie.After-field Inv-loop μ-loop) → c .field .result ≤ 140
+few c = omega (arith, c .field .ensures, changes-few (c .before .part .result .now), short (c .before))
 
 loop-again : tie.Need-loop-again Inv-loop μ-loop
 loop-again c =
@@ -34,7 +35,7 @@ loop-again c =
       search needs,
       search needs,
       omega (arith, few c),
-      count-field (l .k) (search needs) (search needs) (c .before .before .text .ensures) (c .before .before .before .before .before .before .args .rec .now) (c .before .part .ensures) (l .inv .3) (c .changes .ensures),
+      count-field (c .before .before .before .before .before .before .args .rec .now) (l .k) (search needs) (search needs) (c .before .before .text .ensures) (c .before .part .ensures) (l .inv .3) (c .field .ensures),
     )
 
 returns : tie.Need-returns Inv-loop μ-loop
@@ -43,8 +44,8 @@ returns c =
     let all : l .k ≡ 10 = omega arith in
     rw all at (l .inv .3)
 
-pub changes-t-spec : {M : Type 1} → statement M
-changes-t-spec =
+pub t-record-spec : {M : Type 1} → statement M
+t-record-spec =
     tie.close
     (tie.spec
     Inv-loop

@@ -6,29 +6,29 @@ use mathlib.Core.Path.{_≡_, refl}
 use lib.ListN.{length, drop, getD}
 use Rattle.laws.specs.Steps.{fold, fold-on, fold-over}
 use Rattle.forwarding.specs.Changes.{counted, changes, changed-few}
-use Rattle.prepare.proofs.changes.Statement.{statement}
-use Rattle.prepare.proofs.changes.Tie as tie
+use Rattle.prepare.proofs.count.field.Statement.{statement}
+use Rattle.prepare.proofs.count.field.Tie as tie
 
 abbrev Inv-loop : tie.InvT-loop
-Inv-loop field n₀ i₀ n i = (i ≤ length field) × (n ≤ i) × (fold counted n (drop i field) ≡ changes field)
+Inv-loop s n₀ i₀ n i = (i ≤ length s) × (n ≤ i) × (fold counted n (drop i s) ≡ changes s)
 
 abbrev μ-loop : tie.MeasureT-loop
-μ-loop field n₀ i₀ n i = length field - i
+μ-loop s n₀ i₀ n i = length s - i
 
 loop-holds : tie.Need-loop-holds Inv-loop μ-loop
 unfolding changes
 loop-holds c = (search needs, search needs, refl)
 
 few : (c : tie.After-changed Inv-loop μ-loop) → c .changed .result ≤ 1
-few c = rw (c .changed .ensures) (changed-few (getD (c .before .before .before .before .before .args .field .now) (c .before .before .before .loop .i) 0))
+few c = rw (c .changed .ensures) (changed-few (getD (c .before .before .before .before .before .args .s .now) (c .before .before .before .loop .i) 0))
 
 loop-again : tie.Need-loop-again Inv-loop μ-loop
 loop-again c =
     let l = c .before .before .before .loop in
     (search needs, omega (arith, few c), rw (c .changed .ensures) (fold-on counted (l .n) _ _ (l .i) (c .before .before .loop-test .taken) (l .inv .2)))
 
-pub changes-spec : {M : Type 1} → statement M
-changes-spec =
+pub field-spec : {M : Type 1} → statement M
+field-spec =
     tie.close
     (tie.spec
     Inv-loop
