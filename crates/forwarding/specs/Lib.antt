@@ -1,3 +1,5 @@
 pub mod Text
 pub mod Forwarded
 pub mod Put
+pub mod Merge
+pub mod RoundTrip
