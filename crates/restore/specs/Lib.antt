@@ -1,0 +1,5 @@
+pub mod Loops
+pub mod ByNotes
+pub mod Plain
+pub mod Restored
+pub mod Told
