@@ -38,6 +38,12 @@ abbrev pub inside : ℕ → List ℕ → Bool
 inside n [] = true
 inside n (v ∷ ns) = ltb (v / 256) n && inside n ns
 
+pub inside-more : (n m : ℕ) (ns : List ℕ) → n ≤ m → inside n ns ≡ true → inside m ns ≡ true
+inside-more n m [] h e = refl
+inside-more n m (v ∷ ns) h e =
+    let w = both (ltb (v / 256) n) (inside n ns) e in
+    rw (lt-ltb (v / 256) m (omega (arith, ltb-true (v / 256) n (w .0)))) (inside-more n m ns h (w .1))
+
 -- the note at j, and those after it
 pub inside-next : (ns : List ℕ) (n j : ℕ) → j < length ns → inside n (drop j ns) ≡ true
     → (getD ns j 0 / 256 < n) × (inside n (drop (j + 1) ns) ≡ true)
@@ -96,11 +102,11 @@ module _ (r : ℕ → ℕ) (text : ℕ → Bool) (g : List ℕ) where
       → (noteFits r text g from v ≡ true) × (notesFit r text g (v / 256 + 1) ns ≡ true)
   fits-first from v ns e = both (noteFits r text g from v) (notesFit r text g (v / 256 + 1) ns) e
 
-  pub notes-inside : (n from : ℕ) (ns : List ℕ) → length g ≤ n → notesFit r text g from ns ≡ true → inside n ns ≡ true
-  notes-inside n from [] h e = refl
-  notes-inside n from (v ∷ ns) h e =
+  pub notes-inside : (from : ℕ) (ns : List ℕ) → notesFit r text g from ns ≡ true → inside (length g) ns ≡ true
+  notes-inside from [] e = refl
+  notes-inside from (v ∷ ns) e =
       let w = fits-first from v ns e in
-      rw (lt-ltb (v / 256) n (omega (arith, fitting from v (w .0) .1))) (notes-inside n (v / 256 + 1) ns h (w .1))
+      rw (lt-ltb (v / 256) (length g) (fitting from v (w .0) .1)) (notes-inside (v / 256 + 1) ns (w .1))
 
   -- the bytes before the first note stay
   untouched : (ns s : List ℕ) (from j : ℕ) → notesFit r text g from ns ≡ true → j < from → getD (putNotes s ns) j 0 ≡ getD s j 0

@@ -23,8 +23,8 @@ use Rattle.judge.specs.declared.Verdict.{Verdict}
 use Rattle.forwarding.specs.Text.{textAt}
 use Rattle.forwarding.specs.Merge.{originalOf, isPair}
 use Rattle.forwarding.specs.Put.{put}
-use Rattle.forwarding.specs.RoundTrip.{original-length}
-use Rattle.restore.specs.ByNotes.{notesFit, putNotes, inside, accepts-by-notes, merged-by-notes, notes-inside, notes-in-front}
+use Rattle.forwarding.specs.RoundTrip.{both}
+use Rattle.restore.specs.ByNotes.{notesFit, putNotes, inside, accepts-by-notes, merged-by-notes, notes-inside, inside-more, notes-in-front, notes-length}
 use Rattle.restore.specs.Plain.{plainFile, plain-file}
 use Rattle.restore.specs.Restored.{answer, isYielded, restoreOf, outputOf, RestoredAs}
 use Rattle.restore.specs.declared.Restored.{Restored}
@@ -48,82 +48,92 @@ sound-payments page file transfer cheque v e z = go (structureOf file) (tells fi
     go (Refused number rec) (inl t) q = absurd (omega (arith, t .1, number-is q))
     go (Refused number rec) (inr t) q = absurd (t .1 .real (number-is q))
 
+-- whether a sound file yields the pair: v is the verdict, whole whether nothing is left to replace, fit whether the notes fit
+module _ (page : ℕ) (g ns transfer cheque : List ℕ) where
+  pair-is : isPair page g ns ≡ isPair page g [] && notesFit (rep page) (textAt (length g)) g 0 ns
+  unfolding isPair
+  pair-is = accepts-by-notes (rep page) (textAt (length g)) g (rep-rep page) ns
+
+  module _ {v : Verdict} (e : v ≡ verdictOf page g transfer cheque) where
+    number-is : v .number ≡ verdictOf page g transfer cheque .number
+    number-is = ap (λ (u : Verdict). u .number) e
+
+    pub by-verdict : (v .number ≡ 0 → ⊥) → false ≡ isYielded page g ns transfer cheque
+    unfolding isYielded
+    by-verdict z = sym (ap (λ (t : Bool). t && isPair page g ns) (ne-eqb _ _ (λ q. z (number-is ∙ q))))
+
+    module _ (z : v .number ≡ 0) {whole : Bool} (p : whole ≡ plainFile g (v .payments)) where
+      yielded-is : whole && notesFit (rep page) (textAt (length g)) g 0 ns ≡ isYielded page g ns transfer cheque
+      unfolding isYielded
+      yielded-is =
+          ap (λ (t : Bool). t && notesFit (rep page) (textAt (length g)) g 0 ns) (p ∙ sym (plain-file page g (v .payments) (sound-payments page g transfer cheque v e z .long)))
+          ∙ sym pair-is ∙ sym (ap (λ (t : Bool). t && isPair page g ns) (eq-eqb _ _ (sym number-is ∙ z)))
+
+      pub by-fields : not whole ≡ true → false ≡ isYielded page g ns transfer cheque
+      by-fields q = rw (not-true whole q) at yielded-is
+
+      pub by-notes : {fit : Bool} → not whole ≡ false → fit ≡ notesFit (rep page) (textAt (length g)) g 0 ns
+          → fit ≡ isYielded page g ns transfer cheque
+      by-notes q f = f ∙ (rw (not-false whole q) at yielded-is)
+
+  -- then the notes are about places of the file, and put back they give the original
+  module _ (y : isYielded page g ns transfer cheque ≡ true) where
+    notes-fit : notesFit (rep page) (textAt (length g)) g 0 ns ≡ true
+    unfolding isYielded
+    notes-fit =
+        let p = both (eqb (verdictOf page g transfer cheque .number) 0) (isPair page g ns) y .1 in
+        both (isPair page g []) (notesFit (rep page) (textAt (length g)) g 0 ns) (sym pair-is ∙ p) .1
+
+    pub notes-in-file : inside (length g) ns ≡ true
+    notes-in-file = notes-inside (rep page) (textAt (length g)) g 0 ns notes-fit
+
+    original-is : putNotes g ns ≡ originalOf g ns
+    unfolding originalOf
+    original-is = sym (merged-by-notes (rep page) (textAt (length g)) g ns notes-fit)
+
+-- the answer
 module _ (page : ℕ) (g ns transfer cheque out : List ℕ) where
   keeps : (n : ℕ) → (n ≡ 0 → ⊥) → answer n ≡ restoreOf page g ns transfer cheque (length out)
       → RestoredAs page g ns transfer cheque out (answer n) out
   unfolding outputOf
-  keeps n z e = record {
-    answer-is = e;
-    output-is = off _ (ne-eqb _ _ (λ q. z (ap (λ (r : Restored). r .number) e ∙ q))) refl;
-  }
+  keeps n z e =
+      record {
+        answer-is = e;
+        output-is = off _ (ne-eqb _ _ (λ q. z (ap (λ (r : Restored). r .number) e ∙ q))) refl;
+      }
 
   pub too-short : length out < length g → RestoredAs page g ns transfer cheque out (answer 60) out
   unfolding restoreOf
   too-short h = keeps 60 (λ z. omega arith) (on-lt _ h refl)
 
-  module _ (room : length g ≤ length out) where
-    refuses : isYielded page g ns transfer cheque ≡ false → RestoredAs page g ns transfer cheque out (answer 70) out
+  module _ (room : length g ≤ length out) {t : Bool} (e : t ≡ isYielded page g ns transfer cheque) where
+    pub refuses : t ≡ false → RestoredAs page g ns transfer cheque out (answer 70) out
     unfolding restoreOf
-    refuses y = keeps 70 (λ z. omega arith) (off-lt _ room (off _ y refl))
+    refuses y = keeps 70 (λ z. omega arith) (off-lt _ room (off _ (sym e ∙ y) refl))
 
-    restores : {out' : List ℕ} → isYielded page g ns transfer cheque ≡ true → out' ≡ put 0 (originalOf g ns) out
-        → RestoredAs page g ns transfer cheque out (answer 0) out'
+    pub restores : {out' : List ℕ} → t ≡ true → out' ≡ put 0 (putNotes g ns) out → RestoredAs page g ns transfer cheque out (answer 0) out'
     unfolding restoreOf outputOf
     restores y h =
-        let e : answer 0 ≡ restoreOf page g ns transfer cheque (length out) = off-lt _ room (on _ y refl) in
-        record { answer-is = e; output-is = on _ (eq-eqb _ _ (sym (ap (λ (r : Restored). r .number) e))) h }
+        let yes = sym e ∙ y in
+        let a : answer 0 ≡ restoreOf page g ns transfer cheque (length out) = off-lt _ room (on _ yes refl) in
+        record {
+          answer-is = a;
+          output-is =
+              on _ (eq-eqb _ _ (sym (ap (λ (r : Restored). r .number) a)))
+              (h ∙ ap (λ (s : List ℕ). put 0 s out) (original-is page g ns transfer cheque yes));
+        }
 
-    -- v is the verdict, whole whether nothing is left to replace, fit whether the notes fit
-    module _ {v : Verdict} (e : v ≡ verdictOf page g transfer cheque) where
-      number-is : v .number ≡ verdictOf page g transfer cheque .number
-      number-is = ap (λ (u : Verdict). u .number) e
+-- what is written: the file is copied, and the notes are put back
+module _ (g ns out : List ℕ) (inside-file : inside (length g) ns ≡ true) {copied : List ℕ}
+    (c : copied ≡ take (length g) g ++ drop (length g) out) where
+  copied-is : copied ≡ g ++ drop (length g) out
+  copied-is = c ∙ ap (λ (s : List ℕ). s ++ drop (length g) out) (take-length g)
 
-      pub unsound : (v .number ≡ 0 → ⊥) → RestoredAs page g ns transfer cheque out (answer 70) out
-      unfolding isYielded
-      unsound z = refuses (ap (λ (t : Bool). t && isPair page g ns) (ne-eqb _ _ (λ q. z (number-is ∙ q))))
+  pub copy-holds : inside (length copied) ns ≡ true
+  copy-holds = inside-more (length g) (length copied) ns (omega (arith, ap length copied-is, length-append g (drop (length g) out))) inside-file
 
-      module _ (z : v .number ≡ 0) where
-        pub fits : Fit g (v .payments)
-        fits = sound-payments page g transfer cheque v e z
-
-        by-pair : {t : Bool} → isPair page g ns ≡ t → isYielded page g ns transfer cheque ≡ t
-        unfolding isYielded
-        by-pair q = ap₂ _&&_ (eq-eqb _ _ (sym number-is ∙ z)) q
-
-        pair-is : isPair page g ns ≡ plainFile g (v .payments) && notesFit (rep page) (textAt (length g)) g 0 ns
-        unfolding isPair
-        pair-is =
-            accepts-by-notes (rep page) (textAt (length g)) g (rep-rep page) ns
-            ∙ ap (λ (t : Bool). t && notesFit (rep page) (textAt (length g)) g 0 ns) (plain-file page g (v .payments) (fits .long))
-
-        module _ {whole : Bool} (p : whole ≡ plainFile g (v .payments)) where
-          pub not-whole : not whole ≡ true → RestoredAs page g ns transfer cheque out (answer 70) out
-          not-whole q = refuses (by-pair (pair-is ∙ ap (λ (t : Bool). t && notesFit (rep page) (textAt (length g)) g 0 ns) (sym p ∙ not-true whole q)))
-
-          module _ (w : not whole ≡ false) {fit : Bool} (f : fit ≡ notesFit (rep page) (textAt (length g)) g 0 ns) where
-            pub not-fitting : not fit ≡ true → RestoredAs page g ns transfer cheque out (answer 70) out
-            not-fitting q = refuses (by-pair (pair-is ∙ ap (λ (t : Bool). plainFile g (v .payments) && t) (sym f ∙ not-true fit q) ∙ and-false (plainFile g (v .payments))))
-
-            module _ (x : not fit ≡ false) where
-              all-fit : notesFit (rep page) (textAt (length g)) g 0 ns ≡ true
-              all-fit = sym f ∙ not-false fit x
-
-              -- the file is copied, and the notes put back
-              module _ {copied : List ℕ} (c : copied ≡ take (length g) g ++ drop (length g) out) where
-                copied-is : copied ≡ g ++ drop (length g) out
-                copied-is = c ∙ ap (λ (s : List ℕ). s ++ drop (length g) out) (take-length g)
-
-                in-file : (n : ℕ) → length g ≤ n → inside n ns ≡ true
-                in-file n h = notes-inside (rep page) (textAt (length g)) g n 0 ns h all-fit
-
-                pub notes-in : inside (length copied) ns ≡ true
-                notes-in = in-file (length copied) (omega (arith, ap length copied-is, length-append g (drop (length g) out)))
-
-                pub put-all : {out' : List ℕ} → out' ≡ putNotes copied ns → RestoredAs page g ns transfer cheque out (answer 0) out'
-                unfolding originalOf
-                put-all q =
-                    let long : length g ≡ 0 + length (originalOf g ns) = omega (arith, original-length g ns) in
-                    restores (by-pair (pair-is ∙ ap₂ _&&_ (sym p ∙ not-false whole w) all-fit))
-                    (q ∙ ap (λ (s : List ℕ). putNotes s ns) copied-is
-                    ∙ notes-in-front ns g (drop (length g) out) (in-file (length g) (omega arith))
-                    ∙ ap₂ (λ (s : List ℕ) (n : ℕ). s ++ drop n out) (sym (merged-by-notes (rep page) (textAt (length g)) g ns all-fit)) long)
+  pub written : {out' : List ℕ} → out' ≡ putNotes copied ns → out' ≡ put 0 (putNotes g ns) out
+  written h =
+      let long : length g ≡ 0 + length (putNotes g ns) = omega (arith, notes-length ns g) in
+      h ∙ ap (λ (s : List ℕ). putNotes s ns) copied-is ∙ notes-in-front ns g (drop (length g) out) inside-file
+      ∙ ap (λ (n : ℕ). putNotes g ns ++ drop n out) long

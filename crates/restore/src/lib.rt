@@ -7,9 +7,10 @@ ghost use Prim.Native.Nat.{ℕ, _+_, _*_, _≤_, _<_};
 ghost use lib.ListN.{length};
 ghost use Rattle.charset.specs.Table.{rep, unchanged};
 ghost use Rattle.forwarding.specs.Text.{qTexts, tTexts, lies, textAt};
+ghost use Rattle.forwarding.specs.Put.{put};
 ghost use Rattle.restore.specs.Plain.{plain, plainAt, plainFile};
 ghost use Rattle.restore.specs.ByNotes.{noteFits, notesFit, inside, putNotes};
-ghost use Rattle.restore.specs.Restored.{RestoredAs};
+ghost use Rattle.restore.specs.Restored.{isYielded, RestoredAs};
 
 // Number 0: restored. Else 60 or 70. The record is always 0.
 pub struct Restored {
@@ -157,6 +158,30 @@ fn put_back(notes: &[u32], out: &mut [u8])
     }
 }
 
+// Some sound file yields the pair: the forwarded file is sound, nothing is left to replace in it, and every note fits.
+fn is_yielded(page: u32, forwarded: &[u8], notes: &[u32], transfer: &[u8], cheque: &[u8]) -> bool
+    ensures { λ r. ⌜ r ≡ isYielded page (now (forwarded .entry)) (now (notes .entry)) (now (transfer .entry)) (now (cheque .entry)) ⌝ }
+{
+    let found = judge::examine(page, forwarded, transfer, cheque);
+    let number = found.number;
+    if number != 0 {
+        return false;
+    }
+    if !plain_file(forwarded, found.payments) {
+        return false;
+    }
+    notes_fit(page, forwarded, notes)
+}
+
+// The forwarded file is copied to the front of the output, and the notes are put back there.
+fn write(forwarded: &[u8], notes: &[u32], out: &mut [u8])
+    requires { ⌜ (length (now forwarded) ≤ length (now out)) × (inside (length (now forwarded)) (now notes) ≡ true) ⌝ }
+    ensures { λ _. ⌜ now (out .exit) ≡ put 0 (putNotes (now (forwarded .entry)) (now (notes .entry))) (now (out .entry)) ⌝ }
+{
+    bytes::copy(forwarded, out);
+    put_back(notes, out);
+}
+
 // On a code page. Nothing is written before everything is checked.
 fn restore_on(
     page: u32,
@@ -171,20 +196,11 @@ fn restore_on(
     if out.len() < forwarded.len() {
         return Restored { number: 60, rec: 0 };
     }
-    let found = judge::examine(page, forwarded, transfer, cheque);
-    let number = found.number;
-    if number != 0 {
-        return Restored { number: 70, rec: 0 };
+    if is_yielded(page, forwarded, notes, transfer, cheque) {
+        write(forwarded, notes, out);
+        return Restored { number: 0, rec: 0 };
     }
-    if !plain_file(forwarded, found.payments) {
-        return Restored { number: 70, rec: 0 };
-    }
-    if !notes_fit(page, forwarded, notes) {
-        return Restored { number: 70, rec: 0 };
-    }
-    bytes::copy(forwarded, out);
-    put_back(notes, out);
-    Restored { number: 0, rec: 0 }
+    Restored { number: 70, rec: 0 }
 }
 
 // The restore of document 01: on page 0.
