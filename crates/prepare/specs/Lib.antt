@@ -2,3 +2,4 @@ pub mod Sized
 pub mod Found
 pub mod Counting
 pub mod Placing
+pub mod Noting
