@@ -72,3 +72,28 @@ fn t_record(rec: &[u8], place: usize, notes: &mut [u32], have: usize) -> usize
     }
     n
 }
+
+// Of the T records, behind the notes that the places have.
+fn payments(file: &[u8], notes: &mut [u32], have: usize) -> usize
+    requires { ⌜ Sized (now file) × (have + length (notedIn 0 256 (zAt (now file)) (now file)) ≤ length (now notes)) ⌝ }
+    ensures { λ r. ⌜ Noted (notedIn 0 256 (zAt (now (file .entry))) (now (file .entry))) have (now (notes .entry)) (now (notes .exit)) r ⌝ }
+{
+    let end = file.len() - Z::LENGTH;
+    let mut n = have;
+    let mut at = Q::LENGTH;
+    while at < end {
+        let next = at + T::LENGTH;
+        n = t_record(&file[at..next], at, notes, n);
+        at = next;
+    }
+    n
+}
+
+// Of a file, and how many they are: the same on every page.
+pub fn file(file: &[u8], notes: &mut [u32]) -> usize
+    requires { ⌜ Sized (now file) × (length (notesOf 0 (now file)) ≤ length (now notes)) ⌝ }
+    ensures { λ r. ⌜ ((page : ℕ) → Noted (notesOf page (now (file .entry))) 0 (now (notes .entry)) (now (notes .exit)) r) ⌝ }
+{
+    let n = q_record(&file[0..Q::LENGTH], notes);
+    payments(file, notes, n)
+}
