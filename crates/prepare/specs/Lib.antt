@@ -3,3 +3,5 @@ pub mod Found
 pub mod Counting
 pub mod Placing
 pub mod Noting
+pub mod Prepared
+pub mod Outcome
