@@ -7,10 +7,11 @@ use mathlib.Core.Path.{_≡_, refl, sym, ap, ap₂, _∙_}
 use mathlib.Core.Bool.{Bool, true, false, _&&_, not, cond, false≢true}
 use mathlib.Core.List.{List, [], _∷_}
 use native.Mathlib.Omega.{arith}
-use borrow.Author.Tests.{eq-eqb, ne-eqb, eqb-true, not-true, not-false}
-use lib.Dec.{eqb}
+use borrow.Author.Tests.{eq-eqb, ne-eqb, eqb-true, ltb-true, not-true, not-false}
+use lib.Dec.{eqb, ltb, lit<}
 use lib.ListN.{length, getD}
-use Rattle.charset.specs.Table.{rep, rep-rep}
+use Rattle.laws.specs.Choice.{either}
+use Rattle.charset.specs.Table.{unchanged, exceptions, look, rep, rep-rep}
 use Rattle.forwarding.specs.Text.{textAt}
 use Rattle.forwarding.specs.Forwarded.{fwd, differs, notes, forwarded, notesOf}
 use Rattle.forwarding.specs.Merge.{merged, becomes, accepts, originalOf, isPair}
@@ -53,6 +54,30 @@ merged-bytes i (b ∷ g) (v ∷ ns) h =
     go true p q (suc k) = p k
     go false p q zero = h 0
     go false p q (suc k) = q k
+
+pub fwd-bytes : (r : ℕ → ℕ) (text : ℕ → Bool) → ((b : ℕ) → b < 256 → r b < 256) → (i : ℕ) (f : List ℕ) → Bytes f → Bytes (fwd r text i f)
+fwd-bytes r text rb i [] h k = h k
+fwd-bytes r text rb i (b ∷ f) h zero = either (λ (x : ℕ). x < 256) (text i) (r b) b (rb b (h 0)) (h 0)
+fwd-bytes r text rb i (b ∷ f) h (suc k) = fwd-bytes r text rb (suc i) f (λ j. h (suc j)) k
+
+-- the table makes bytes of bytes, on every page: the test of its rows computes
+abbrev byteRows : List (ℕ × ℕ) → Bool
+byteRows [] = true
+byteRows (row ∷ rows) = ltb (row .1) 256 && byteRows rows
+
+look-byte : (rows : List (ℕ × ℕ)) (b : ℕ) → byteRows rows ≡ true → look rows b < 256
+look-byte [] b e = lit< tt
+look-byte (row ∷ rows) b e =
+    let w = both (ltb (row .1) 256) (byteRows rows) e in
+    either (λ (x : ℕ). x < 256) (eqb b (row .0)) (row .1) (look rows b) (ltb-true _ _ (w .0)) (look-byte rows b (w .1))
+
+pages-bytes : (page : ℕ) → byteRows (exceptions page) ≡ true
+pages-bytes zero = refl
+pages-bytes (suc _) = refl
+
+pub rep-byte : (page b : ℕ) → b < 256 → rep page b < 256
+unfolding rep
+rep-byte page b h = either (λ (x : ℕ). x < 256) (unchanged b) b (look (exceptions page) b) h (look-byte (exceptions page) b (pages-bytes page))
 
 -- a note gives its place and its byte back
 note-place : (i b : ℕ) → b < 256 → (i * 256 + b) / 256 ≡ i
@@ -191,6 +216,10 @@ module _ (page : ℕ) where
   pub forwarded-length : (f : List ℕ) → length (forwarded page f) ≡ length f
   unfolding forwarded
   forwarded-length f = fwd-length (rep page) (textAt (length f)) 0 f
+
+  pub forwarded-bytes : (f : List ℕ) → Bytes f → Bytes (forwarded page f)
+  unfolding forwarded
+  forwarded-bytes f h = fwd-bytes (rep page) (textAt (length f)) (rep-byte page) 0 f h
 
   pub forwarded-forwarded : (f : List ℕ) → forwarded page (forwarded page f) ≡ forwarded page f
   unfolding forwarded

@@ -4,3 +4,4 @@ pub mod Plain
 pub mod Found
 pub mod Restored
 pub mod Told
+pub mod Origin
