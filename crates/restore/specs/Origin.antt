@@ -59,8 +59,8 @@ module _ (page : ℕ) (transfer cheque : List ℕ) where
       record {
         bytes = original-bytes sent notes h;
         sound =
-          sym (sound-alike (originalOf sent notes)) ∙ ap (λ (s : List ℕ). verdictOf page s transfer cheque .number) (y .0)
-          ∙ eqb-true (verdictOf page sent transfer cheque .number) 0 (w .0);
+            sym (sound-alike (originalOf sent notes)) ∙ ap (λ (s : List ℕ). verdictOf page s transfer cheque .number) (y .0)
+            ∙ eqb-true (verdictOf page sent transfer cheque .number) 0 (w .0);
         forwards = y .0;
         notes-are = y .1;
       }
@@ -98,8 +98,8 @@ module _ (page : ℕ) (transfer cheque : List ℕ) where
         let zero : given ≡ answer 0 = promise .answer-is ∙ sym (off-lt _ room (on _ (origin-yielded file sent notes o) refl)) in (
           zero,
           promise .output-is
-          ∙ sym (on _ (eq-eqb _ _ (ap (λ (r : Restored). r .number) (sym (promise .answer-is) ∙ zero))) refl)
-          ∙ ap (λ (s : List ℕ). put 0 s out) (very-file file sent notes o),
+              ∙ sym (on _ (eq-eqb _ _ (ap (λ (r : Restored). r .number) (sym (promise .answer-is) ∙ zero))) refl)
+              ∙ ap (λ (s : List ℕ). put 0 s out) (very-file file sent notes o),
         )
 
     -- answer 0 only where some sound file yields the pair

@@ -83,13 +83,13 @@ fn in_text(o: usize) -> bool
     ensures { λ r. ⌜ r ≡ lies tTexts o ⌝ }
 {
     let mut found = false;
-    let mut field = 2;
-    while field < 10 {
-        let s = T::text(field);
+    let mut k = 2;
+    while k < 10 {
+        let s = T::text(k);
         let start = s.start;
         let end = s.end;
         found = found | ((start <= o) & (o < end));
-        field += 1;
+        k += 1;
     }
     found
 }
@@ -149,12 +149,12 @@ fn put_back(notes: &[u32], out: &mut [u8])
     requires { ⌜ inside (length (now out)) (now notes) ≡ true ⌝ }
     ensures { λ _. ⌜ now (out .exit) ≡ putNotes (now (out .entry)) (now (notes .entry)) ⌝ }
 {
-    let mut j = 0;
-    while j < notes.len() {
-        let note = notes[j];
+    let mut k = 0;
+    while k < notes.len() {
+        let note = notes[k];
         let place = (note / 256) as usize;
         out[place] = (note % 256) as u8;
-        j += 1;
+        k += 1;
     }
 }
 
