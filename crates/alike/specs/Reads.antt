@@ -8,10 +8,11 @@ use native.Mathlib.Nat.{add-zero, suc-add, add-suc}
 use native.Mathlib.Omega.{arith}
 use borrow.Author.Tests.{leb-true, lt-leb, le-ltb}
 use lib.Dec.{leb, ltb}
-use lib.ListN.{length, getD, take, drop, length-take, length-drop}
+use lib.ListN.{length, take, drop}
 use Rattle.fields.specs.Laws.{and-left, and-right}
 use Rattle.charset.specs.Table.{rep, text, rep-rep}
 use Rattle.records.specs.Places.{part}
+use Rattle.records.specs.Inside.{part-le}
 use Rattle.records.specs.declared.Span.{Span}
 use Rattle.forwarding.specs.Text.{lies}
 use Rattle.forwarding.specs.Forwarded.{fwd}
@@ -81,10 +82,6 @@ lies-apart (t ∷ ts) s k e p q =
     go false g h =
         ap (λ (c : Bool). leb (t .start) k && c) (le-ltb k (t .end) (omega (arith, leb-true (t .end) (s .start) h)))
         ∙ and-false (leb (t .start) k)
-
-part-le : (s : Span) (f : List ℕ) → length (part s f) ≤ s .end - s .start
-unfolding part
-part-le s f = rw (length-take (s .end - s .start) (drop (s .start) f)) (omega arith)
 
 -- a record, forwarded by its own text places
 pub alike : (page : ℕ) (ss : List Span) (a : List ℕ) → Alike page ss a (fwd (rep page) (lies ss) 0 a)

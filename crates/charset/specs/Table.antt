@@ -3,10 +3,11 @@
 -- A, O, U and S: page 0 reads them at their DIN 66003 codes, every other page at their ISO 8859-1 codes. Every other byte
 -- becomes a space. The theorem, `rep-rep`: a replaced character is its own replacement, on every page.
 use Prim.Native.Nat.{ℕ, zero, suc}
-use mathlib.Core.Path.{_≡_, refl}
-use mathlib.Core.Bool.{Bool, true, false, _&&_, _||_, cond}
+use mathlib.Core.Path.{_≡_, refl, sym, ap, _∙_}
+use mathlib.Core.Bool.{Bool, true, false, _&&_, _||_, cond, false≢true}
 use mathlib.Core.List.{List, [], _∷_, map}
 use Prim.Native.Char.{code}
+use borrow.Author.Tests.{eq-eqb, ne-eqb}
 use lib.Dec.{eqb, leb, T}
 use Rattle.laws.specs.Ascii.{ascii}
 
@@ -21,12 +22,14 @@ abbrev pub unchanged : ℕ → Bool
 unchanged b =
     within (code "A") (code "Z") b || within (code "a") (code "z") b || within (code "0") (code "9") b || among (ascii " .,-/+%") b
 
+-- the four German characters by page, and what they become
+abbrev pub german : ℕ → List (ℕ × ℕ)
+german zero = (0x5B, code "A") ∷ (0x5C, code "O") ∷ (0x5D, code "U") ∷ (0x7E, code "S") ∷ []
+german (suc _) = (0xC4, code "A") ∷ (0xD6, code "O") ∷ (0xDC, code "U") ∷ (0xDF, code "S") ∷ []
+
 -- a byte that is not unchanged, and what it becomes
 abbrev pub exceptions : ℕ → List (ℕ × ℕ)
-exceptions zero =
-    (code "&", code "+") ∷ (code "$", code "S") ∷ (0x5B, code "A") ∷ (0x5C, code "O") ∷ (0x5D, code "U") ∷ (0x7E, code "S") ∷ []
-exceptions (suc _) =
-    (code "&", code "+") ∷ (code "$", code "S") ∷ (0xC4, code "A") ∷ (0xD6, code "O") ∷ (0xDC, code "U") ∷ (0xDF, code "S") ∷ []
+exceptions page = (code "&", code "+") ∷ (code "$", code "S") ∷ german page
 
 -- what the first row for b says; a space where there is none
 abbrev pub look : List (ℕ × ℕ) → ℕ → ℕ
@@ -74,8 +77,15 @@ unchanged-rep page b e = rw e
 pub rep-rep : (page b : ℕ) → rep page (rep page b) ≡ rep page b
 rep-rep page b = unchanged-rep page (rep page b) (rep-unchanged page b)
 
+-- a character is changed where it is not among the unchanged, whatever the page
+pub changes-are : (page b : ℕ) → eqb (rep page b) b ≡ unchanged b
+changes-are page b = go (unchanged b) refl
+  where
+    go : (kept : Bool) → unchanged b ≡ kept → eqb (rep page b) b ≡ kept
+    go true e = eq-eqb (rep page b) b (unchanged-rep page b e)
+    go false e = ne-eqb (rep page b) b (λ q. false≢true (sym e ∙ ap unchanged (sym q) ∙ rep-unchanged page b))
+
 -- every page but 0 is page 1
-pub other-page : (page b : ℕ) → (page ≡ 0 → ⊥) → rep page b ≡ rep 1 b
-unfolding rep
+pub other-page : (page b : ℕ) → (page ≡ 0 → ⊥) → look (german page) b ≡ look (german 1) b
 other-page zero b h = absurd (h refl)
 other-page (suc _) b h = refl

@@ -1,5 +1,13 @@
 pub mod Text
 pub mod Forwarded
 pub mod Put
+pub mod Parts
+pub mod Between
+pub mod Changes
+pub mod Fields
+pub mod Pieces
+pub mod Noted
+pub mod Numbered
+pub mod Sent
 pub mod Merge
 pub mod RoundTrip

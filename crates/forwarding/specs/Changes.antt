@@ -1,0 +1,68 @@
+-- Which characters the table changes does not depend on the page: the notes of a text are the same on every page, and so is
+-- how many they are.
+use Prim.Native.Nat.{ℕ, suc, _+_, _*_, _≤_}
+use mathlib.Core.Path.{_≡_, refl, sym, ap, ap₂, _∙_}
+use mathlib.Core.Bool.{Bool, true, false, _&&_, not, cond}
+use mathlib.Core.List.{List, [], _∷_, _++_}
+use native.Mathlib.Nat.{add-zero}
+use native.Mathlib.Omega.{arith}
+use lib.Dec.{eqb, lit≤}
+use lib.ListN.{length}
+use Rattle.laws.specs.Choice.{either}
+use Rattle.laws.specs.Steps.{fold}
+use Rattle.charset.specs.Table.{unchanged, rep, changes-are}
+use Rattle.forwarding.specs.Forwarded.{notes}
+use Rattle.forwarding.specs.Parts.{always, notes-append, notes-few}
+
+-- the notes of a text, of which the first character stands at place i
+abbrev pub textNotes : ℕ → List ℕ → List ℕ
+textNotes i [] = []
+textNotes i (b ∷ s) = cond (unchanged b) (textNotes (suc i) s) ((i * 256 + b) ∷ textNotes (suc i) s)
+
+pub text-notes : (page i : ℕ) (s : List ℕ) → notes (rep page) always i s ≡ textNotes i s
+text-notes page i [] = refl
+text-notes page i (b ∷ s) = rw (changes-are page b) (go (unchanged b) (text-notes page (suc i) s))
+  where
+    go : (kept : Bool) {xs ys : List ℕ} → xs ≡ ys → cond (not kept) ((i * 256 + b) ∷ xs) xs ≡ cond kept ys ((i * 256 + b) ∷ ys)
+    go true h = h
+    go false h = ap (λ (l : List ℕ). (i * 256 + b) ∷ l) h
+
+pub text-append : (i : ℕ) (xs ys : List ℕ) → textNotes i (xs ++ ys) ≡ textNotes i xs ++ textNotes (i + length xs) ys
+text-append i xs ys =
+    sym (text-notes 0 i (xs ++ ys)) ∙ notes-append (rep 0) always i xs ys ∙ ap₂ _++_ (text-notes 0 i xs) (text-notes 0 (i + length xs) ys)
+
+-- the notes of any places, on any two pages
+pub any-page : (p q : ℕ) (t : ℕ → Bool) (i : ℕ) (xs : List ℕ) → notes (rep p) t i xs ≡ notes (rep q) t i xs
+any-page p q t i [] = refl
+any-page p q t i (b ∷ xs) =
+    let same : eqb (rep p b) b ≡ eqb (rep q b) b = changes-are p b ∙ sym (changes-are q b) in
+    ap₂ (λ (e : Bool) (rest : List ℕ). cond (t i && not e) ((i * 256 + b) ∷ rest) rest) same (any-page p q t (suc i) xs)
+
+-- how many characters of a text are changed
+abbrev pub changed : ℕ → ℕ
+changed b = cond (unchanged b) 0 1
+
+abbrev pub counted : ℕ → ℕ → ℕ
+counted n b = n + changed b
+
+unfoldable pub changes : List ℕ → ℕ
+changes s = fold counted 0 s
+
+count-from : (n i : ℕ) (s : List ℕ) → fold counted n s ≡ n + length (textNotes i s)
+count-from n i [] = sym (add-zero n)
+count-from n i (b ∷ s) = count-from (n + changed b) (suc i) s ∙ go (unchanged b) (textNotes (suc i) s)
+  where
+    go : (kept : Bool) (rest : List ℕ) → n + cond kept 0 1 + length rest ≡ n + length (cond kept rest ((i * 256 + b) ∷ rest))
+    go true rest = omega arith
+    go false rest = omega arith
+
+-- as many as there are notes, wherever it stands; no more than there are characters
+pub changes-noted : (i : ℕ) (s : List ℕ) → changes s ≡ length (textNotes i s)
+unfolding changes
+changes-noted i s = count-from 0 i s ∙ omega arith
+
+pub changes-few : (s : List ℕ) → changes s ≤ length s
+changes-few s = omega (arith, changes-noted 0 s, ap length (text-notes 0 0 s), notes-few (rep 0) always 0 s)
+
+pub changed-few : (b : ℕ) → changed b ≤ 1
+changed-few b = either (λ (n : ℕ). n ≤ 1) (unchanged b) 0 1 (lit≤ tt) (lit≤ tt)

@@ -1,0 +1,172 @@
+-- The text fields of a record. Its notes are those of its fields, one field after the other; and to replace its fields, one
+-- after the other and each where it stands, is to forward it. The fields ss are any that follow one another.
+use Prim.Native.Nat.{ℕ, _+_, _-_, _≤_, _<_}
+use mathlib.Core.Path.{_≡_, refl, sym, ap, ap₂, _∙_}
+use mathlib.Core.Bool.{Bool, true, false, _&&_, _||_, false≢true}
+use mathlib.Core.List.{List, [], _∷_, _++_, map, append-assoc}
+use native.Mathlib.Nat.{add-zero}
+use native.Mathlib.Omega.{arith}
+use borrow.Author.Tests.{leb-true, le-leb, lt-leb, lt-ltb, le-ltb}
+use lib.Dec.{leb, ltb}
+use lib.ListN.{length, take, drop, length-append, take-append-drop}
+use lib.Seq.{length-take-le}
+use Rattle.charset.specs.Table.{rep, rep-rep, text}
+use Rattle.records.specs.Places.{part}
+use Rattle.records.specs.declared.Span.{Span}
+use Rattle.forwarding.specs.Between.{between, between-long, between-rest}
+use Rattle.forwarding.specs.Text.{lies}
+use Rattle.forwarding.specs.Forwarded.{fwd, notes}
+use Rattle.forwarding.specs.Parts.{never, always, fwd-never, notes-never, fwd-always, fwd-append, notes-append, fwd-same, notes-same, fwd-fwd}
+use Rattle.forwarding.specs.Changes.{textNotes, text-notes, changes, changes-noted}
+
+-- the notes of the fields of a record that stands at place a, and how many they are
+abbrev pub fieldNotes : List Span → ℕ → List ℕ → List ℕ
+fieldNotes [] a rec = []
+fieldNotes (s ∷ ss) a rec = textNotes (a + s .start) (part s rec) ++ fieldNotes ss a rec
+
+abbrev pub fieldChanges : List Span → List ℕ → ℕ
+fieldChanges [] rec = 0
+fieldChanges (s ∷ ss) rec = changes (part s rec) + fieldChanges ss rec
+
+pub field-count : (ss : List Span) (a : ℕ) (rec : List ℕ) → fieldChanges ss rec ≡ length (fieldNotes ss a rec)
+field-count [] a rec = refl
+field-count (s ∷ ss) a rec =
+    ap₂ _+_ (changes-noted (a + s .start) (part s rec)) (field-count ss a rec)
+    ∙ sym (length-append (textNotes (a + s .start) (part s rec)) (fieldNotes ss a rec))
+
+-- fields and then more fields
+pub notes-more : (ss us : List Span) (a : ℕ) (rec : List ℕ) → fieldNotes (ss ++ us) a rec ≡ fieldNotes ss a rec ++ fieldNotes us a rec
+notes-more [] us a rec = refl
+notes-more (s ∷ ss) us a rec =
+    let x = textNotes (a + s .start) (part s rec) in
+    ap (λ (l : List ℕ). x ++ l) (notes-more ss us a rec) ∙ sym (append-assoc x (fieldNotes ss a rec) (fieldNotes us a rec))
+
+pub changes-more : (ss us : List Span) (rec : List ℕ) → fieldChanges (ss ++ us) rec ≡ fieldChanges ss rec + fieldChanges us rec
+changes-more [] us rec = omega arith
+changes-more (s ∷ ss) us rec = omega (arith, changes-more ss us rec)
+
+lies-more : (ss us : List Span) (i : ℕ) → lies (ss ++ us) i ≡ lies ss i || lies us i
+lies-more [] us i = refl
+lies-more (s ∷ ss) us i = rw (lies-more ss us i) (go (leb (s .start) i && ltb i (s .end)))
+  where
+    go : (here : Bool) → here || (lies ss i || lies us i) ≡ here || lies ss i || lies us i
+    go true = refl
+    go false = refl
+
+-- before, in and behind the first field
+module _ (s : Span) (ss : List Span) (i : ℕ) where
+  pub lies-before : i < s .start → lies (s ∷ ss) i ≡ lies ss i
+  lies-before h = rw (lt-leb (s .start) i h)
+
+  pub lies-in : s .start ≤ i → i < s .end → lies (s ∷ ss) i ≡ true
+  lies-in h l = rw (le-leb (s .start) i h, lt-ltb i (s .end) l)
+
+  pub lies-behind : s .end ≤ i → lies (s ∷ ss) i ≡ lies ss i
+  lies-behind h = rw (le-ltb i (s .end) h) (go (leb (s .start) i))
+    where
+      go : (b : Bool) → b && false || lies ss i ≡ lies ss i
+      go true = refl
+      go false = refl
+
+-- fields that follow one another, from lo to hi
+abbrev pub rising : ℕ → ℕ → List Span → Bool
+rising lo hi [] = leb lo hi
+rising lo hi (s ∷ ss) = leb lo (s .start) && leb (s .start) (s .end) && rising (s .end) hi ss
+
+record Rises (lo hi : ℕ) (s : Span) (ss : List Span) : Type 0 where
+  first : lo ≤ s .start
+  last : s .start ≤ s .end
+  more : rising (s .end) hi ss ≡ true
+
+rises : {lo hi : ℕ} (s : Span) (ss : List Span) → rising lo hi (s ∷ ss) ≡ true → Rises lo hi s ss
+rises {lo} {hi} s ss e = go (leb lo (s .start)) (leb (s .start) (s .end)) refl refl e
+  where
+    go : (a b : Bool) → leb lo (s .start) ≡ a → leb (s .start) (s .end) ≡ b → a && b && rising (s .end) hi ss ≡ true → Rises lo hi s ss
+    go true true p q e = record { first = leb-true _ _ p; last = leb-true _ _ q; more = e }
+    go true false p q e = absurd (false≢true e)
+    go false b p q e = absurd (false≢true e)
+
+rises-to : (lo hi : ℕ) (ss : List Span) → rising lo hi ss ≡ true → lo ≤ hi
+rises-to lo hi [] e = leb-true lo hi e
+rises-to lo hi (s ∷ ss) e =
+    let o = rises s ss e in
+    omega (arith, o .first, o .last, rises-to (s .end) hi ss (o .more))
+
+none-before : (lo hi : ℕ) (ss : List Span) (i : ℕ) → rising lo hi ss ≡ true → i < lo → lies ss i ≡ false
+none-before lo hi [] i e h = refl
+none-before lo hi (s ∷ ss) i e h =
+    let o = rises s ss e in
+    lies-before s ss i (omega (arith, o .first)) ∙ none-before (s .end) hi ss i (o .more) (omega (arith, o .first, o .last))
+
+-- the places of a record that stands at a
+abbrev pub liesFrom : ℕ → List Span → ℕ → Bool
+liesFrom a ss i = lies ss (i - a)
+
+module _ (page : ℕ) (a : ℕ) (rec : List ℕ) where
+  -- from offset lo on
+  notes-from : (ss : List Span) (lo : ℕ) → rising lo (length rec) ss ≡ true
+      → notes (rep page) (liesFrom a ss) (a + lo) (drop lo rec) ≡ fieldNotes ss a rec
+  unfolding part
+  notes-from [] lo e =
+      notes-same (rep page) (liesFrom a []) never (a + lo) (drop lo rec) (λ k p q. refl) ∙ notes-never (rep page) (a + lo) (drop lo rec)
+  notes-from (s ∷ ss) lo e =
+      let o = rises s ss e in
+      let first = o .first in
+      let last = o .last in
+      let end = rises-to (s .end) (length rec) ss (o .more) in
+      let t = liesFrom a (s ∷ ss) in
+      let gap = between lo (s .start) rec in
+      let field = between (s .start) (s .end) rec in
+      let rest = drop (s .end) rec in
+      let gap-long = between-long lo (s .start) rec (omega arith) in
+      let field-long = between-long (s .start) (s .end) rec end in
+      let to-field : a + lo + length gap ≡ a + s .start = omega arith in
+      let to-rest : a + s .start + length field ≡ a + s .end = omega arith in
+      let of-gap : notes (rep page) t (a + lo) gap ≡ [] =
+      notes-same (rep page) t never (a + lo) gap
+      (λ k p q. lies-before s ss (k - a) (omega arith) ∙ none-before (s .end) (length rec) ss (k - a) (o .more) (omega arith))
+      ∙ notes-never (rep page) (a + lo) gap in
+      let of-field : notes (rep page) t (a + s .start) field ≡ textNotes (a + s .start) field =
+      notes-same (rep page) t always (a + s .start) field (λ k p q. lies-in s ss (k - a) (omega arith) (omega arith))
+      ∙ text-notes page (a + s .start) field in
+      let of-rest : notes (rep page) t (a + s .end) rest ≡ fieldNotes ss a rec =
+      notes-same (rep page) t (liesFrom a ss) (a + s .end) rest (λ k p q. lies-behind s ss (k - a) (omega arith))
+      ∙ notes-from ss (s .end) (o .more) in
+      ap (notes (rep page) t (a + lo)) (between-rest lo (s .start) rec first ∙ ap (λ (l : List ℕ). gap ++ l) (between-rest (s .start) (s .end) rec last))
+      ∙ notes-append (rep page) t (a + lo) gap (field ++ rest)
+      ∙ rw (of-gap, to-field) (notes-append (rep page) t (a + s .start) field rest ∙ rw (to-rest, of-field, of-rest))
+
+  pub record-notes : (ss : List Span) → rising 0 (length rec) ss ≡ true → notes (rep page) (liesFrom a ss) a rec ≡ fieldNotes ss a rec
+  record-notes ss e = rw add-zero at (notes-from ss 0 e)
+
+-- one field replaced where it stands: front, field and rest of the record
+field-there : (r : ℕ → ℕ) (s : Span) (xs : List ℕ) → s .start ≤ s .end → s .end ≤ length xs
+    → take (s .start) xs ++ (map r (between (s .start) (s .end) xs) ++ drop (s .end - s .start) (drop (s .start) xs)) ≡ fwd r (lies (s ∷ [])) 0 xs
+field-there r s xs h l =
+    let t = lies (s ∷ []) in
+    let front = take (s .start) xs in
+    let field = between (s .start) (s .end) xs in
+    let rest = drop (s .end - s .start) (drop (s .start) xs) in
+    let front-long : length front ≡ s .start = length-take-le (s .start) xs (omega arith) in
+    let field-long : length field ≡ s .end - s .start = between-long (s .start) (s .end) xs l in
+    let of-front : fwd r t 0 front ≡ front =
+    fwd-same r t never 0 front (λ k p q. lies-before s [] k (omega arith)) ∙ fwd-never r 0 front in
+    let of-field : fwd r t (0 + length front) field ≡ map r field =
+    fwd-same r t always (0 + length front) field (λ k p q. lies-in s [] k (omega arith) (omega arith)) ∙ fwd-always r (0 + length front) field in
+    let of-rest : fwd r t (0 + length front + length field) rest ≡ rest =
+    fwd-same r t never (0 + length front + length field) rest (λ k p q. lies-behind s [] k (omega arith)) ∙ fwd-never r (0 + length front + length field) rest in
+    let whole : xs ≡ front ++ (field ++ rest) = simp take-append-drop in
+    sym
+    (ap (fwd r t 0) whole ∙ fwd-append r t 0 front (field ++ rest)
+    ∙ ap₂ _++_ of-front (fwd-append r t (0 + length front) field rest ∙ ap₂ _++_ of-field of-rest))
+
+-- the fields ss are replaced, and then one more
+pub field-more : (page : ℕ) (ss : List Span) (s : Span) (rec xs ys : List ℕ) → s .start ≤ s .end → s .end ≤ length xs
+    → xs ≡ fwd (rep page) (lies ss) 0 rec → ys ≡ text page (between (s .start) (s .end) xs)
+    → take (s .start) xs ++ (ys ++ drop (s .end - s .start) (drop (s .start) xs)) ≡ fwd (rep page) (lies (ss ++ (s ∷ []))) 0 rec
+field-more page ss s rec xs ys h l e f =
+    ap (λ (l : List ℕ). take (s .start) xs ++ (l ++ drop (s .end - s .start) (drop (s .start) xs))) f
+    ∙ field-there (rep page) s xs h l
+    ∙ ap (fwd (rep page) (lies (s ∷ [])) 0) e
+    ∙ fwd-fwd (rep page) (rep-rep page) (lies ss) (lies (s ∷ [])) 0 rec
+    ∙ fwd-same (rep page) (λ k. lies ss k || lies (s ∷ []) k) (lies (ss ++ (s ∷ []))) 0 rec (λ k p q. sym (lies-more ss (s ∷ []) k))

@@ -1,0 +1,32 @@
+-- A text field as the code finds it: s is its place, and field its bytes. It lies in its record, and is short.
+use Prim.Native.Nat.{ℕ, _-_, _≤_, _<_}
+use mathlib.Core.Path.{_≡_, ap, _∙_}
+use mathlib.Core.List.{List}
+use native.Mathlib.Omega.{arith}
+use lib.ListN.{length, drop, length-take}
+use Rattle.records.specs.Places.{part, qText, tText}
+use Rattle.records.specs.Inside.{Inside, inside, q-inside}
+use Rattle.records.specs.declared.Span.{Span}
+use Rattle.records.specs.declared.QField.the-variants.{Q5}
+use Rattle.forwarding.specs.Numbered.{text-inside, text-short}
+
+part-short : (s : Span) (rec : List ℕ) → length (part s rec) ≤ s .end - s .start
+unfolding part
+part-short s rec = omega (arith, length-take (s .end - s .start) (drop (s .start) rec))
+
+pub same-part : {s place : Span} → s ≡ place → (rec : List ℕ) {field : List ℕ} → field ≡ part s rec → field ≡ part place rec
+same-part e rec bytes = bytes ∙ ap (λ (s : Span). part s rec) e
+
+module _ {s : Span} (at : s ≡ qText 1) where
+  pub q-in : (rec : List ℕ) → length rec ≡ 256 → Inside (length rec) s
+  q-in rec l = inside at (q-inside Q5) l
+
+  pub q-short : (rec : List ℕ) {field : List ℕ} → field ≡ part s rec → length field ≤ 140
+  q-short rec bytes = omega (arith, ap length (same-part at rec bytes), part-short (qText 1) rec)
+
+module _ (k : ℕ) (low : 2 ≤ k) (high : k < 10) {s : Span} (at : s ≡ tText k) where
+  pub t-in : (rec : List ℕ) → length rec ≡ 768 → Inside (length rec) s
+  t-in rec l = inside at (text-inside k low high) l
+
+  pub t-short : (rec : List ℕ) {field : List ℕ} → field ≡ part s rec → length field ≤ 140
+  t-short rec bytes = omega (arith, ap length (same-part at rec bytes), part-short (tText k) rec, text-short k low high)

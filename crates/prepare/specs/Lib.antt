@@ -1,0 +1,4 @@
+pub mod Sized
+pub mod Found
+pub mod Counting
+pub mod Placing
