@@ -1,5 +1,5 @@
 -- Forwarding and restoring undo each other, for any table whose replacements stay as they are, and whatever places are text.
--- The theorems: a forwarded list yields itself, with no notes (`fwd-fwd`, `fwd-notes`); the notes put back give the bytes
+-- The theorems: a forwarded list yields itself, with no notes (`fwd-twice`, `fwd-notes`); the notes put back give the bytes
 -- (`merged-back`), so two lists never share both (`one-origin`); and a pair is accepted exactly when some bytes yield it
 -- (`accepts-exactly`). Then the same of whole files.
 use Prim.Native.Nat.{ℕ, zero, suc, _+_, _*_, _/_, _%_, _<_}
@@ -7,12 +7,14 @@ use mathlib.Core.Path.{_≡_, refl, sym, ap, ap₂, _∙_}
 use mathlib.Core.Bool.{Bool, true, false, _&&_, not, cond, false≢true}
 use mathlib.Core.List.{List, [], _∷_}
 use native.Mathlib.Omega.{arith}
-use borrow.Author.Tests.{eq-eqb, ne-eqb, eqb-true, not-true, not-false}
-use lib.Dec.{eqb}
+use borrow.Author.Tests.{eq-eqb, ne-eqb, eqb-true, ltb-true, not-true, not-false}
+use lib.Dec.{eqb, ltb, lit<, eqb·suc-zero}
 use lib.ListN.{length, getD}
-use Rattle.charset.specs.Table.{rep, rep-rep}
+use Rattle.laws.specs.Choice.{either}
+use Rattle.charset.specs.Table.{unchanged, exceptions, look, rep, rep-rep}
 use Rattle.forwarding.specs.Text.{textAt}
 use Rattle.forwarding.specs.Forwarded.{fwd, differs, notes, forwarded, notesOf}
+use Rattle.forwarding.specs.Parts.{fwd-length}
 use Rattle.forwarding.specs.Merge.{merged, becomes, accepts, originalOf, isPair}
 
 -- every element is a byte
@@ -22,10 +24,6 @@ Bytes s = (k : ℕ) → getD s k 0 < 256
 pub both : (a b : Bool) → a && b ≡ true → (a ≡ true) × (b ≡ true)
 both true b e = (refl, e)
 both false b e = let z : false ≡ true = e in (z, cc)
-
-pub fwd-length : (r : ℕ → ℕ) (text : ℕ → Bool) (i : ℕ) (f : List ℕ) → length (fwd r text i f) ≡ length f
-fwd-length r text i [] = refl
-fwd-length r text i (b ∷ f) = ap suc (fwd-length r text (suc i) f)
 
 pub merged-none : (i : ℕ) (g : List ℕ) → merged i g [] ≡ g
 merged-none i [] = refl
@@ -53,6 +51,30 @@ merged-bytes i (b ∷ g) (v ∷ ns) h =
     go true p q (suc k) = p k
     go false p q zero = h 0
     go false p q (suc k) = q k
+
+pub fwd-bytes : (r : ℕ → ℕ) (text : ℕ → Bool) → ((b : ℕ) → b < 256 → r b < 256) → (i : ℕ) (f : List ℕ) → Bytes f → Bytes (fwd r text i f)
+fwd-bytes r text rb i [] h k = h k
+fwd-bytes r text rb i (b ∷ f) h zero = either (λ (x : ℕ). x < 256) (text i) (r b) b (rb b (h 0)) (h 0)
+fwd-bytes r text rb i (b ∷ f) h (suc k) = fwd-bytes r text rb (suc i) f (λ j. h (suc j)) k
+
+-- the table makes bytes of bytes, on every page: the test of its rows computes
+abbrev byteRows : List (ℕ × ℕ) → Bool
+byteRows [] = true
+byteRows (row ∷ rows) = ltb (row .1) 256 && byteRows rows
+
+look-byte : (rows : List (ℕ × ℕ)) (b : ℕ) → byteRows rows ≡ true → look rows b < 256
+look-byte [] b e = lit< tt
+look-byte (row ∷ rows) b e =
+    let w = both (ltb (row .1) 256) (byteRows rows) e in
+    either (λ (x : ℕ). x < 256) (eqb b (row .0)) (row .1) (look rows b) (ltb-true _ _ (w .0)) (look-byte rows b (w .1))
+
+pages-bytes : (page : ℕ) → byteRows (exceptions page) ≡ true
+pages-bytes zero = refl
+pages-bytes (suc _) = refl
+
+pub rep-byte : (page b : ℕ) → b < 256 → rep page b < 256
+unfolding rep
+rep-byte page b h = either (λ (x : ℕ). x < 256) (unchanged b) b (look (exceptions page) b) h (look-byte (exceptions page) b (pages-bytes page))
 
 -- a note gives its place and its byte back
 note-place : (i b : ℕ) → b < 256 → (i * 256 + b) / 256 ≡ i
@@ -169,6 +191,16 @@ module _ (r : ℕ → ℕ) (text : ℕ → Bool) where
     λ f k y. ap₂ (accepts r text i) (sym (y .forwards)) (sym (y .notes-are)) ∙ accepts-yielded i f k,
   )
 
+  -- no notes: accepted where the bytes themselves have none
+  pub none-left : (i : ℕ) (g : List ℕ) → accepts r text i g [] ≡ eqb (length (notes r text i g)) 0
+  none-left i [] = refl
+  none-left i (b ∷ g) = go (differs r text i b) (none-left (suc i) g)
+    where
+      go : (d : Bool) → accepts r text (suc i) g [] ≡ eqb (length (notes r text (suc i) g)) 0
+          → not d && accepts r text (suc i) g [] ≡ eqb (length (cond d ((i * 256 + b) ∷ notes r text (suc i) g) (notes r text (suc i) g))) 0
+      go true e = sym (eqb·suc-zero (length (notes r text (suc i) g)))
+      go false e = e
+
   -- a table whose replacements stay as they are: a forwarded list yields itself, with no notes
   module _ (steady : (b : ℕ) → r (r b) ≡ r b) where
     settled : (i b : ℕ) → differs r text i (cond (text i) (r b) b) ≡ false
@@ -178,9 +210,9 @@ module _ (r : ℕ → ℕ) (text : ℕ → Bool) where
         go true = rw (eq-eqb _ _ (steady b))
         go false = refl
 
-    pub fwd-fwd : (i : ℕ) (f : List ℕ) → fwd r text i (fwd r text i f) ≡ fwd r text i f
-    fwd-fwd i [] = refl
-    fwd-fwd i (b ∷ f) = ap₂ _∷_ (kept i _ (settled i b)) (fwd-fwd (suc i) f)
+    pub fwd-twice : (i : ℕ) (f : List ℕ) → fwd r text i (fwd r text i f) ≡ fwd r text i f
+    fwd-twice i [] = refl
+    fwd-twice i (b ∷ f) = ap₂ _∷_ (kept i _ (settled i b)) (fwd-twice (suc i) f)
 
     pub fwd-notes : (i : ℕ) (f : List ℕ) → notes r text i (fwd r text i f) ≡ []
     fwd-notes i [] = refl
@@ -192,13 +224,22 @@ module _ (page : ℕ) where
   unfolding forwarded
   forwarded-length f = fwd-length (rep page) (textAt (length f)) 0 f
 
+  pub forwarded-bytes : (f : List ℕ) → Bytes f → Bytes (forwarded page f)
+  unfolding forwarded
+  forwarded-bytes f h = fwd-bytes (rep page) (textAt (length f)) (rep-byte page) 0 f h
+
   pub forwarded-forwarded : (f : List ℕ) → forwarded page (forwarded page f) ≡ forwarded page f
   unfolding forwarded
-  forwarded-forwarded f = rw fwd-length (fwd-fwd (rep page) (textAt (length f)) (rep-rep page) 0 f)
+  forwarded-forwarded f = rw fwd-length (fwd-twice (rep page) (textAt (length f)) (rep-rep page) 0 f)
 
   pub forwarded-notes : (f : List ℕ) → notesOf page (forwarded page f) ≡ []
   unfolding forwarded notesOf
   forwarded-notes f = rw fwd-length (fwd-notes (rep page) (textAt (length f)) (rep-rep page) 0 f)
+
+  -- a file and no notes are a pair where nothing of the file is left to replace
+  pub pair-alone : (g : List ℕ) → isPair page g [] ≡ eqb (length (notesOf page g)) 0
+  unfolding isPair notesOf
+  pair-alone g = none-left (rep page) (textAt (length g)) 0 g
 
   pub original-back : (f : List ℕ) → Bytes f → originalOf (forwarded page f) (notesOf page f) ≡ f
   unfolding forwarded notesOf originalOf

@@ -1,22 +1,33 @@
--- Whether a place is text, a note fits, and a field has nothing left to replace, by what the code found.
+-- Whether a place is text, and whether a note fits, by what the code found.
 use Prim.Native.Nat.{ℕ, _+_, _-_, _/_, _%_, _≤_, _<_}
 use mathlib.Core.Path.{_≡_, refl, sym, ap, ap₂, _∙_}
-use mathlib.Core.Bool.{Bool, true, false, _&&_, _||_, not, cond, and-false, or-false}
+use mathlib.Core.Bool.{Bool, true, false, _&&_, _||_, not, cond, and-false, or-false, or-assoc}
 use mathlib.Core.List.{List}
 use native.Mathlib.Omega.{arith}
 use borrow.Author.Tests.{lt-ltb, le-ltb, le-leb, lt-leb, ltb-true, not-true, not-false}
-use lib.Dec.{eqb, leb, ltb, lit≤}
+use lib.Dec.{eqb, leb, ltb}
 use lib.ListN.{length, getD, drop}
-use Rattle.laws.specs.Choice.{either}
+use Rattle.laws.specs.Scan.{run, run-turn, run-end}
 use Rattle.laws.specs.Steps.{next}
 use Rattle.charset.specs.Table.{rep}
-use Rattle.records.specs.Places.{qText, tText, part}
-use Rattle.records.specs.Inside.{Inside}
+use Rattle.records.specs.Places.{qText}
 use Rattle.records.specs.declared.Span.{Span}
 use Rattle.forwarding.specs.Text.{qTexts, tTexts, lies, text, textAt}
 use Rattle.forwarding.specs.RoundTrip.{both}
 use Rattle.restore.specs.ByNotes.{noteFits, notesFit}
-use Rattle.restore.specs.Plain.{plain}
+
+-- some number from i up to below e passes the test P
+abbrev pub anyFrom : (ℕ → Bool) → ℕ → ℕ → Bool
+anyFrom P i e = run (λ (j : ℕ) (rest : Bool). P j || rest) false i e
+
+-- a loop that carries along whether one did so far, t
+module _ (P : ℕ → Bool) (i e : ℕ) (t whole : Bool) where
+  pub any-on : i < e → t || anyFrom P i e ≡ whole → (t || P i) || anyFrom P (i + 1) e ≡ whole
+  any-on h q =
+      or-assoc t (P i) (anyFrom P (i + 1) e) ∙ ap (λ (x : Bool). t || x) (sym (run-turn (λ (j : ℕ) (rest : Bool). P j || rest) false i e h)) ∙ q
+
+  pub any-over : e ≤ i → t || anyFrom P i e ≡ whole → t ≡ whole
+  any-over h q = sym (or-false t) ∙ ap (λ (x : Bool). t || x) (sym (run-end (λ (j : ℕ) (rest : Bool). P j || rest) false i e h)) ∙ q
 
 -- place i of a file of n bytes: in Z or past the end, in Q, in a T record
 module _ (n i : ℕ) where
@@ -69,23 +80,3 @@ module _ (page : ℕ) (g ns : List ℕ) (from j : ℕ) {t whole : Bool} (h : j <
 
   pub notes-on : not t ≡ false → notesFit (rep page) (textAt (length g)) g (getD ns j 0 / 256 + 1) (drop (j + 1) ns) ≡ whole
   notes-on q = rw (not-false t q) at turn
-
--- every text field lies in its record
-pub q-text-in : Inside 256 (qText 1)
-q-text-in = (lit≤ tt, lit≤ tt)
-
-pub t-text-in : (k : ℕ) → Inside 768 (tText k)
-t-text-in k =
-    let in-record = either (Inside 768) in
-    in-record (eqb k 2) _ _ (lit≤ tt, lit≤ tt)
-    (in-record (eqb k 3) _ _ (lit≤ tt, lit≤ tt)
-    (in-record (eqb k 4) _ _ (lit≤ tt, lit≤ tt)
-    (in-record (eqb k 5) _ _ (lit≤ tt, lit≤ tt)
-    (in-record (eqb k 6) _ _ (lit≤ tt, lit≤ tt)
-    (in-record (eqb k 7) _ _ (lit≤ tt, lit≤ tt)
-    (in-record (eqb k 8) _ _ (lit≤ tt, lit≤ tt)
-    (in-record (eqb k 9) _ _ (lit≤ tt, lit≤ tt) (lit≤ tt, lit≤ tt))))))))
-
--- a text field of a record that was found at s, with the bytes xs
-pub field-plain : {s place : Span} {xs : List ℕ} {t : Bool} (rec : List ℕ) → s ≡ place → xs ≡ part s rec → t ≡ plain xs → t ≡ plain (part place rec)
-field-plain rec p q e = e ∙ ap plain (q ∙ ap (λ (s : Span). part s rec) p)

@@ -1,9 +1,8 @@
--- The answer and the output by what the call found: the room, the verdict, the text fields and the notes.
+-- The answer and the output by what the call found: the room, the verdict, what is left to replace, and the notes.
 use Prim.Native.Nat.{ℕ, _+_, _*_, _≤_, _<_}
 use mathlib.Core.Path.{_≡_, refl, sym, ap, ap₂, _∙_}
 use mathlib.Core.Bool.{Bool, true, false, _&&_, not, cond, and-false}
 use mathlib.Core.List.{List, [], _++_}
-use mathlib.Core.Logic.{inl, inr}
 use native.Mathlib.Omega.{arith}
 use borrow.Author.Tests.{lt-ltb, le-ltb, eq-eqb, ne-eqb, eqb-false, not-true, not-false}
 use lib.Dec.{eqb, ltb}
@@ -11,44 +10,27 @@ use lib.ListN.{length, take, drop, length-append}
 use lib.Seq.{take-length}
 use Rattle.laws.specs.Choice.{on, off, on-lt, off-lt}
 use Rattle.charset.specs.Table.{rep, rep-rep}
-use Rattle.structure.specs.Walk.{structureOf}
-use Rattle.structure.specs.Fits.{Fit, Tells, tells}
-use Rattle.structure.specs.declared.Shape.{Shape}
-use Rattle.structure.specs.declared.Shape.the-variants.{Fits, Refused}
-use Rattle.judge.specs.Content.{contentOf}
-use Rattle.judge.specs.Sums.{euroSum, centSum}
-use Rattle.judge.specs.Verdict.{refused, sound, verdictBy, verdictOf}
-use Rattle.judge.specs.declared.Broken.{Broken}
+use Rattle.judge.specs.Verdict.{verdictOf}
+use Rattle.judge.specs.Told.{sound-fits}
 use Rattle.judge.specs.declared.Verdict.{Verdict}
 use Rattle.forwarding.specs.Text.{textAt}
+use Rattle.forwarding.specs.Forwarded.{notesOf}
 use Rattle.forwarding.specs.Merge.{originalOf, isPair}
 use Rattle.forwarding.specs.Put.{put}
-use Rattle.forwarding.specs.RoundTrip.{both}
+use Rattle.forwarding.specs.RoundTrip.{both, pair-alone}
+use Rattle.prepare.specs.Sized.{Sized}
 use Rattle.restore.specs.ByNotes.{notesFit, putNotes, inside, accepts-by-notes, merged-by-notes, notes-inside, inside-more, notes-in-front, notes-length}
-use Rattle.restore.specs.Plain.{plainFile, plain-file}
 use Rattle.restore.specs.Restored.{answer, isYielded, restoreOf, outputOf, RestoredAs}
 use Rattle.restore.specs.declared.Restored.{Restored}
 
--- what is not refused fits, with as many T records as the verdict tells payments
-pub sound-payments : (page : ℕ) (file transfer cheque : List ℕ) (v : Verdict) → v ≡ verdictOf page file transfer cheque → v .number ≡ 0
-    → Fit file (v .payments)
-unfolding verdictOf
-sound-payments page file transfer cheque v e z = go (structureOf file) (tells file) e
-  where
-    number-is : {w : Verdict} → v ≡ w → w .number ≡ 0
-    number-is q = sym (ap (λ (u : Verdict). u .number) q) ∙ z
+-- what is not refused is as long as its records
+pub sized : (page : ℕ) (file transfer cheque : List ℕ) {v : Verdict} → v ≡ verdictOf page file transfer cheque → v .number ≡ 0 → Sized file
+sized page file transfer cheque e z =
+    let f = sound-fits page file transfer cheque (sym (ap (λ (v : Verdict). v .number) e) ∙ z) in
+    record { payments = f .0; long = f .2 .long; most = f .2 .most }
 
-    by : (n : ℕ) (fault : Broken) (euros cents : ℕ) → Fit file n → (b : Bool) → eqb (fault .number) 0 ≡ b
-        → v ≡ cond b (sound n euros cents) (refused (fault .number) (fault .rec)) → Fit file (v .payments)
-    by n fault euros cents fit true p q = rw (ap (λ (u : Verdict). u .payments) q) fit
-    by n fault euros cents fit false p q = absurd (eqb-false (fault .number) 0 p (number-is q))
-
-    go : (s : Shape) → Tells file s → v ≡ verdictBy s page file transfer cheque → Fit file (v .payments)
-    go (Fits n) t q = by n (contentOf page file n (euroSum file n) transfer cheque) (euroSum file n) (centSum file n) (t .1) _ refl q
-    go (Refused number rec) (inl t) q = absurd (omega (arith, t .1, number-is q))
-    go (Refused number rec) (inr t) q = absurd (t .1 .real (number-is q))
-
--- whether a sound file yields the pair: v is the verdict, whole whether nothing is left to replace, fit whether the notes fit
+-- whether a sound file yields the pair: v is the verdict, n how many characters are left to replace, fit whether
+-- the notes fit
 module _ (page : ℕ) (g ns transfer cheque : List ℕ) where
   pair-is : isPair page g ns ≡ isPair page g [] && notesFit (rep page) (textAt (length g)) g 0 ns
   unfolding isPair
@@ -62,19 +44,19 @@ module _ (page : ℕ) (g ns transfer cheque : List ℕ) where
     unfolding isYielded
     by-verdict z = sym (ap (λ (t : Bool). t && isPair page g ns) (ne-eqb _ _ (λ q. z (number-is ∙ q))))
 
-    module _ (z : v .number ≡ 0) {whole : Bool} (p : whole ≡ plainFile g (v .payments)) where
-      yielded-is : whole && notesFit (rep page) (textAt (length g)) g 0 ns ≡ isYielded page g ns transfer cheque
+    module _ (z : v .number ≡ 0) {n : ℕ} (left : (p : ℕ) → n ≡ length (notesOf p g)) where
+      yielded-is : {t : Bool} → eqb n 0 ≡ t → t && notesFit (rep page) (textAt (length g)) g 0 ns ≡ isYielded page g ns transfer cheque
       unfolding isYielded
-      yielded-is =
-          ap (λ (t : Bool). t && notesFit (rep page) (textAt (length g)) g 0 ns) (p ∙ sym (plain-file page g (v .payments) (sound-payments page g transfer cheque v e z .long)))
-          ∙ sym pair-is ∙ sym (ap (λ (t : Bool). t && isPair page g ns) (eq-eqb _ _ (sym number-is ∙ z)))
+      yielded-is q =
+          let alone = pair-alone page g ∙ ap (λ (m : ℕ). eqb m 0) (sym (left page)) ∙ q in
+          ap (λ (t : Bool). t && notesFit (rep page) (textAt (length g)) g 0 ns) (sym alone) ∙ sym pair-is
+          ∙ sym (ap (λ (t : Bool). t && isPair page g ns) (eq-eqb _ _ (sym number-is ∙ z)))
 
-      pub by-fields : not whole ≡ true → false ≡ isYielded page g ns transfer cheque
-      by-fields q = rw (not-true whole q) at yielded-is
+      pub by-changes : (n ≡ 0 → ⊥) → false ≡ isYielded page g ns transfer cheque
+      by-changes q = yielded-is (ne-eqb n 0 q)
 
-      pub by-notes : {fit : Bool} → not whole ≡ false → fit ≡ notesFit (rep page) (textAt (length g)) g 0 ns
-          → fit ≡ isYielded page g ns transfer cheque
-      by-notes q f = f ∙ (rw (not-false whole q) at yielded-is)
+      pub by-notes : {fit : Bool} → n ≡ 0 → fit ≡ notesFit (rep page) (textAt (length g)) g 0 ns → fit ≡ isYielded page g ns transfer cheque
+      by-notes q f = f ∙ yielded-is (eq-eqb n 0 q)
 
   -- then the notes are about places of the file, and put back they give the original
   module _ (y : isYielded page g ns transfer cheque ≡ true) where

@@ -3,12 +3,11 @@ use records::Q;
 use records::T;
 ghost use mathlib.Core.Path.{_≡_};
 ghost use mathlib.Core.Bool.{true};
-ghost use Prim.Native.Nat.{ℕ, _+_, _*_, _≤_, _<_};
+ghost use Prim.Native.Nat.{_≤_, _<_};
 ghost use lib.ListN.{length};
-ghost use Rattle.charset.specs.Table.{rep, unchanged};
-ghost use Rattle.forwarding.specs.Text.{qTexts, tTexts, lies, textAt};
+ghost use Rattle.charset.specs.Table.{rep};
+ghost use Rattle.forwarding.specs.Text.{tTexts, lies, textAt};
 ghost use Rattle.forwarding.specs.Put.{put};
-ghost use Rattle.restore.specs.Plain.{plain, plainAt, plainFile};
 ghost use Rattle.restore.specs.ByNotes.{noteFits, notesFit, inside, putNotes};
 ghost use Rattle.restore.specs.Restored.{isYielded, RestoredAs};
 
@@ -18,78 +17,18 @@ pub struct Restored {
     pub rec: usize,
 }
 
-// A character that the table leaves as it is, on every page.
-fn unchanged(b: u8) -> bool
-    ensures { λ r. ⌜ r ≡ unchanged b ⌝ }
-{
-    ((65 <= b) & (b <= 90))
-        | ((97 <= b) & (b <= 122))
-        | ((48 <= b) & (b <= 57))
-        | ((b == 32)
-            | ((b == 46) | ((b == 44) | ((b == 45) | ((b == 47) | ((b == 43) | (b == 37)))))))
-}
-
-// Nothing is left to replace in a text. The loop decides at the end only, so that it is compiled to many bytes a step.
-fn plain(s: &[u8]) -> bool
-    ensures { λ r. ⌜ r ≡ plain (now (s .entry)) ⌝ }
-{
-    let mut ok = true;
-    let mut i = 0;
-    while i < s.len() {
-        ok = ok & unchanged(s[i]);
-        i += 1;
-    }
-    ok
-}
-
-// Nor in the text field of record 0.
-fn plain_q(rec: &[u8]) -> bool
-    requires { ⌜ length (now rec) ≡ 256 ⌝ }
-    ensures { λ r. ⌜ r ≡ plainAt qTexts (now (rec .entry)) ⌝ }
-{
-    plain(records::part(rec, Q::text(1)))
-}
-
-// Nor in those of a T record.
-fn plain_t(rec: &[u8]) -> bool
-    requires { ⌜ length (now rec) ≡ 768 ⌝ }
-    ensures { λ r. ⌜ r ≡ plainAt tTexts (now (rec .entry)) ⌝ }
-{
-    let mut ok = true;
-    let mut field = 2;
-    while field < 10 {
-        ok = ok & plain(records::part(rec, T::text(field)));
-        field += 1;
-    }
-    ok
-}
-
-// Nor in a file with n T records.
-fn plain_file(file: &[u8], n: usize) -> bool
-    requires { ⌜ (length (now file) ≡ 512 + 768 * n) × (n ≤ 9999) ⌝ }
-    ensures { λ r. ⌜ r ≡ plainFile (now (file .entry)) n ⌝ }
-{
-    let mut ok = plain_q(structure::slot(file, 0));
-    let mut k = 1;
-    while k < n + 1 {
-        ok = ok & plain_t(structure::slot(file, k));
-        k += 1;
-    }
-    ok
-}
-
 // Whether an offset of a T record lies in one of its text fields.
-fn in_text(o: usize) -> bool
-    ensures { λ r. ⌜ r ≡ lies tTexts o ⌝ }
+fn in_text(offset: usize) -> bool
+    ensures { λ r. ⌜ r ≡ lies tTexts offset ⌝ }
 {
     let mut found = false;
-    let mut field = 2;
-    while field < 10 {
-        let s = T::text(field);
+    let mut k = 2;
+    while k < 10 {
+        let s = T::text(k);
         let start = s.start;
         let end = s.end;
-        found = found | ((start <= o) & (o < end));
-        field += 1;
+        found = found | ((start <= offset) & (offset < end));
+        k += 1;
     }
     found
 }
@@ -149,12 +88,12 @@ fn put_back(notes: &[u32], out: &mut [u8])
     requires { ⌜ inside (length (now out)) (now notes) ≡ true ⌝ }
     ensures { λ _. ⌜ now (out .exit) ≡ putNotes (now (out .entry)) (now (notes .entry)) ⌝ }
 {
-    let mut j = 0;
-    while j < notes.len() {
-        let note = notes[j];
+    let mut k = 0;
+    while k < notes.len() {
+        let note = notes[k];
         let place = (note / 256) as usize;
         out[place] = (note % 256) as u8;
-        j += 1;
+        k += 1;
     }
 }
 
@@ -167,7 +106,7 @@ fn is_yielded(page: u32, forwarded: &[u8], notes: &[u32], transfer: &[u8], chequ
     if number != 0 {
         return false;
     }
-    if !plain_file(forwarded, found.payments) {
+    if prepare::count::file(forwarded) != 0 {
         return false;
     }
     notes_fit(page, forwarded, notes)
