@@ -1,8 +1,12 @@
 // The calls for hosts in C. Lent slices pass as pointer and count.
 use judge::Verdict;
+use prepare::Prepared;
+use restore::Restored;
 ghost use mathlib.Core.Path.{_≡_};
 ghost use mathlib.Core.List.{[]};
 ghost use Rattle.judge.specs.Verdict.{judgeOf};
+ghost use Rattle.prepare.specs.Prepared.{PreparedAs};
+ghost use Rattle.restore.specs.Restored.{RestoredAs};
 ghost use Rattle.show.specs.Shown.{shownAt};
 ghost use Rattle.host.specs.Answers.{answerOf, partOf};
 
@@ -26,6 +30,32 @@ pub extern "C" fn desk_judge_full(
     ensures { λ r. ⌜ r ≡ judgeOf (now (file .entry)) (now (transfer .entry)) (now (cheque .entry)) (now (taken .entry)) ⌝ }
 {
     judge::judge(file, transfer, cheque, taken)
+}
+
+#[no_mangle]
+pub extern "C" fn desk_prepare(
+    file: &[u8],
+    transfer: &[u8],
+    cheque: &[u8],
+    out: &mut [u8],
+    notes: &mut [u32],
+) -> Prepared
+    ensures { λ r. ⌜ PreparedAs 0 (now (file .entry)) (now (transfer .entry)) (now (cheque .entry)) (now (out .entry)) (now (notes .entry)) r (now (out .exit)) (now (notes .exit)) ⌝ }
+{
+    prepare::prepare(file, transfer, cheque, out, notes)
+}
+
+#[no_mangle]
+pub extern "C" fn desk_restore(
+    forwarded: &[u8],
+    notes: &[u32],
+    transfer: &[u8],
+    cheque: &[u8],
+    out: &mut [u8],
+) -> Restored
+    ensures { λ r. ⌜ RestoredAs 0 (now (forwarded .entry)) (now (notes .entry)) (now (transfer .entry)) (now (cheque .entry)) (now (out .entry)) r (now (out .exit)) ⌝ }
+{
+    restore::restore(forwarded, notes, transfer, cheque, out)
 }
 
 // Where a shown field stands in the file. Length 0: no such field.

@@ -12,6 +12,7 @@ ghost use Rattle.restore.specs.ByNotes.{noteFits, notesFit, inside, putN
 ghost use Rattle.restore.specs.Restored.{isYielded, RestoredAs};
 
 // Number 0: restored. Else 60 or 70. The record is always 0.
+#[repr(C)]
 pub struct Restored {
     pub number: usize,
     pub rec: usize,
