@@ -44,9 +44,13 @@ module _ (page : ℕ) (rec : List ℕ) where
       field-more page (textsBelow k) s rec xs ys (i .0) (i .1) so-far e
       ∙ ap (λ (ss : List Span). fwd (rep page) (lies ss) 0 rec) (ap (λ (s : Span). textsBelow k ++ (s ∷ [])) at ∙ sym (texts-more k low high))
 
--- what a copy into a part of the same length leaves
-pub copied : (s part : List ℕ) {d : List ℕ} → length part ≡ length s → d ≡ take (length s) s ++ drop (length s) part → d ≡ s
-copied s part l e = e ∙ ap₂ _++_ (take-length s) (over part (length s) (omega arith)) ∙ append-nil s
+-- what a copy into a part of the same length leaves, and what the fields replaced in it then make
+module _ (s part : List ℕ) {d : List ℕ} (l : length part ≡ length s) (e : d ≡ take (length s) s ++ drop (length s) part) where
+  copied : d ≡ s
+  copied = e ∙ ap₂ _++_ (take-length s) (over part (length s) (omega arith)) ∙ append-nil s
+
+  pub copied-replaced : (page : ℕ) (ss : List Span) {f : List ℕ} → f ≡ fwd (rep page) (lies ss) 0 d → f ≡ fwd (rep page) (lies ss) 0 s
+  copied-replaced page ss r = r ∙ ap (fwd (rep page) (lies ss) 0) copied
 
 -- the T records before place `at` are placed
 pub record Placed (page : ℕ) (file out out' : List ℕ) (at : ℕ) : Type 0 where
@@ -82,6 +86,10 @@ module _ (page : ℕ) {file out : List ℕ} (sized : Sized file) (room : length 
         let z : at ≡ zAt file = omega (arith, begins-last sized (placed .begins) done) in
         placed .so-far ∙ ap (λ (e : ℕ). put 256 (sentIn page 256 e file) out) z
 
+-- the bytes of xs where the file has Z
+abbrev pub zPart : List ℕ → List ℕ → List ℕ
+zPart file xs = between (zAt file) (length file) xs
+
 -- Q is placed
 module _ (page : ℕ) (file out : List ℕ) (sized : Sized file) (room : length file ≤ length out) where
   module _ {out₁ : List ℕ} (ys : List ℕ) (e : ys ≡ fwd (rep page) (lies qTexts) 0 (between 0 256 file))
@@ -105,13 +113,14 @@ module _ (page : ℕ) (file out : List ℕ) (sized : Sized file) (room : length 
       same-t : length out₂ ≡ length out
       same-t = sent-same page file out room 0 (zAt file) (omega arith) (omega arith) after-t
 
-      pub place-z : (d : List ℕ) → d ≡ take (length (between (zAt file) (length file) file)) (between (zAt file) (length file) file)
-          ++ drop (length (between (zAt file) (length file) file)) (between (zAt file) (length file) out₂)
+      pub place-z : (d : List ℕ) → d ≡ take (length (zPart file file)) (zPart file file) ++ drop (length (zPart file file)) (zPart file out₂)
           → backAs (zAt file) (length file) d out₂ ≡ put 0 (forwarded page file) out
       place-z d e =
-          let z = between (zAt file) (length file) file in
+          let here = between-long (zAt file) (length file) file (omega arith) in
+          let there = between-long (zAt file) (length file) out₂ (omega (arith, same-t)) in
           let all : d ≡ drop (zAt file) file =
-          copied z (between (zAt file) (length file) out₂) (omega (arith, between-long (zAt file) (length file) file (omega arith), between-long (zAt file) (length file) out₂ (omega (arith, same-t)))) e
+          copied (zPart file file) (zPart file out₂) (omega (arith, here, there)) e
           ∙ take-all (length file - zAt file) (drop (zAt file) file) (omega (arith, length-drop (zAt file) file)) in
           sent-all page file out room (zAt file) (omega (arith, sized .long)) after-t
-          (put-part (zAt file) (length file) d out₂ (omega arith) (ap length all ∙ length-drop (zAt file) file) ∙ ap (λ (xs : List ℕ). put (zAt file) xs out₂) all)
+          (put-part (zAt file) (length file) d out₂ (omega arith) (ap length all ∙ length-drop (zAt file) file)
+          ∙ ap (λ (xs : List ℕ). put (zAt file) xs out₂) all)

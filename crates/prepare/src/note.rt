@@ -1,10 +1,10 @@
-// The notes of the changed characters, field by field: place in the file × 256 + original byte, by rising place.
+// The notes of the changed characters, field by field, by rising place.
 use records::Q;
 use records::T;
 use records::Z;
 ghost use mathlib.Core.Path.{_≡_};
 ghost use mathlib.Core.List.{[], _∷_};
-ghost use Prim.Native.Nat.{ℕ, _+_, _≤_, _<_};
+ghost use Prim.Native.Nat.{ℕ, _+_, _*_, _≤_, _<_};
 ghost use lib.ListN.{length};
 ghost use Rattle.forwarding.specs.Text.{qTexts, tTexts};
 ghost use Rattle.forwarding.specs.Forwarded.{notesOf};
@@ -14,6 +14,14 @@ ghost use Rattle.forwarding.specs.Noted.{Noted};
 ghost use Rattle.forwarding.specs.Pieces.{notedIn};
 ghost use Rattle.prepare.specs.Sized.{Sized, zAt};
 
+// "A note is a 32-bit number, place in the file × 256 + original byte."
+fn note_of(place: usize, b: u8) -> u32
+    requires { ⌜ place < 7679744 ⌝ }
+    ensures { λ r. ⌜ r ≡ place * 256 + b ⌝ }
+{
+    (place as u32) * 256 + (b as u32)
+}
+
 // Of a character at a place: none where it is unchanged.
 fn character(b: u8, place: usize, notes: &mut [u32], have: usize) -> usize
     requires { ⌜ (place < 7679744) × (have + length (textNotes place (b ∷ [])) ≤ length (now notes)) ⌝ }
@@ -22,7 +30,7 @@ fn character(b: u8, place: usize, notes: &mut [u32], have: usize) -> usize
     if charset::unchanged(b) {
         return have;
     }
-    notes[have] = (place as u32) * 256 + (b as u32);
+    notes[have] = note_of(place, b);
     have + 1
 }
 

@@ -1,5 +1,5 @@
 use borrow.Author.Needs.{needs}
-use mathlib.Core.Path.{refl, sym, _∙_}
+use mathlib.Core.Path.{sym, _∙_}
 use Rattle.forwarding.specs.Noted.{kept-noted, change-noted, change-room}
 use Rattle.prepare.proofs.note.character.Statement.{statement}
 use Rattle.prepare.proofs.note.character.Tie as tie
@@ -11,13 +11,14 @@ returns c =
 
 slice-write-notes : tie.Need-slice-write-notes
 slice-write-notes c =
-    let a = c .before .before .before .args in
-    change-room (a .place) (a .b) (a .have) (a .notes .now) (sym (c .before .unchanged .ensures) ∙ c .if1 .left) (c .before .before .before .pre .1)
+    let start = c .before .before .before .before in
+    let a = start .args in
+    change-room (a .place) (a .b) (a .have) (a .notes .now) (sym (c .before .before .unchanged .ensures) ∙ c .before .if1 .left) (start .pre .1)
 
 returns-2 : tie.Need-returns-2
 returns-2 c =
-    let a = c .before .before .before .args in
-    change-noted (a .place) (a .b) (a .have) (a .notes .now) _ (sym (c .before .unchanged .ensures) ∙ c .if1 .left) (slice-write-notes c) refl
+    let a = c .before .before .before .before .args in
+    change-noted (a .place) (a .b) (a .have) (a .notes .now) _ (sym (c .before .before .unchanged .ensures) ∙ c .before .if1 .left) (slice-write-notes c) (c .note-of .ensures)
 
 pub character-spec : {M : Type 1} → statement M
 character-spec =
@@ -25,9 +26,7 @@ character-spec =
     (tie.spec
     (λ c κs. search needs)
     returns
-    (λ c. search needs)
-    (λ c. search needs)
-    (λ c. search needs)
+    (λ c κs. search needs)
     (λ c. search needs)
     slice-write-notes
     (λ c. search needs)

@@ -1,17 +1,14 @@
 use borrow.Author.Needs.{needs}
-use mathlib.Core.Path.{sym, ap, _∙_}
-use Rattle.charset.specs.Table.{rep}
-use Rattle.forwarding.specs.Text.{lies, qTexts}
-use Rattle.forwarding.specs.Forwarded.{fwd}
-use Rattle.prepare.specs.Placing.{copied}
+use mathlib.Core.Path.{sym, _∙_}
+use Rattle.forwarding.specs.Text.{qTexts}
+use Rattle.prepare.specs.Placing.{copied-replaced}
 use Rattle.prepare.proofs.place.q_record.Statement.{statement}
 use Rattle.prepare.proofs.place.q_record.Tie as tie
 
 returns : tie.Need-returns
 returns c =
     let start = c .before .before .before .before .before .before .before .before .before .before in
-    c .before .before .replace-q .ensures
-    ∙ ap (fwd (rep (start .args .page)) (lies qTexts) 0) (copied (start .args .rec .now) (start .args .part .now) (start .pre .1 ∙ sym (start .pre .0)) (c .before .before .before .before .before .before .copy .ensures .1))
+    copied-replaced (start .args .rec .now) (start .args .part .now) (start .pre .1 ∙ sym (start .pre .0)) (c .before .before .before .before .before .before .copy .ensures .1) (start .args .page) qTexts (c .before .before .replace-q .ensures)
 
 pub q-record-spec : {M : Type 1} → statement M
 q-record-spec = tie.close (tie.spec (λ c κs. search needs) (λ c κs. search needs) (λ c. search needs) returns)
