@@ -11,7 +11,8 @@ use lib.ListN.{length}
 use Rattle.laws.specs.Choice.{either}
 use Rattle.laws.specs.Steps.{fold}
 use Rattle.charset.specs.Table.{unchanged, rep, changes-are}
-use Rattle.forwarding.specs.Forwarded.{notes}
+use Rattle.forwarding.specs.Text.{textAt}
+use Rattle.forwarding.specs.Forwarded.{notes, notesOf}
 use Rattle.forwarding.specs.Parts.{always, notes-append, notes-few}
 
 -- the notes of a text, of which the first character stands at place i
@@ -31,12 +32,16 @@ pub text-append : (i : ℕ) (xs ys : List ℕ) → textNotes i (xs ++ ys) ≡ te
 text-append i xs ys =
     sym (text-notes 0 i (xs ++ ys)) ∙ notes-append (rep 0) always i xs ys ∙ ap₂ _++_ (text-notes 0 i xs) (text-notes 0 (i + length xs) ys)
 
--- the notes of any places, on any two pages
+-- the notes of any places, and so those of a file, on any two pages
 pub any-page : (p q : ℕ) (t : ℕ → Bool) (i : ℕ) (xs : List ℕ) → notes (rep p) t i xs ≡ notes (rep q) t i xs
 any-page p q t i [] = refl
 any-page p q t i (b ∷ xs) =
     let same : eqb (rep p b) b ≡ eqb (rep q b) b = changes-are p b ∙ sym (changes-are q b) in
     ap₂ (λ (e : Bool) (rest : List ℕ). cond (t i && not e) ((i * 256 + b) ∷ rest) rest) same (any-page p q t (suc i) xs)
+
+pub notes-page : (p q : ℕ) (file : List ℕ) → notesOf p file ≡ notesOf q file
+unfolding notesOf
+notes-page p q file = any-page p q (textAt (length file)) 0 file
 
 -- how many characters of a text are changed
 abbrev pub changed : ℕ → ℕ

@@ -1,6 +1,6 @@
 -- A text field as the code finds it: s is its place, and field its bytes. It lies in its record, and is short.
-use Prim.Native.Nat.{ℕ, _-_, _≤_, _<_}
-use mathlib.Core.Path.{_≡_, ap, _∙_}
+use Prim.Native.Nat.{ℕ, _+_, _-_, _≤_, _<_}
+use mathlib.Core.Path.{_≡_, refl, ap, _∙_}
 use mathlib.Core.List.{List}
 use native.Mathlib.Omega.{arith}
 use lib.ListN.{length, drop, length-take}
@@ -21,12 +21,22 @@ module _ {s : Span} (at : s ≡ qText 1) where
   pub q-in : (rec : List ℕ) → length rec ≡ 256 → Inside (length rec) s
   q-in rec l = inside at (q-inside Q5) l
 
-  pub q-short : (rec : List ℕ) {field : List ℕ} → field ≡ part s rec → length field ≤ 140
-  q-short rec bytes = omega (arith, ap length (same-part at rec bytes), part-short (qText 1) rec)
+  module _ (rec : List ℕ) {field : List ℕ} (bytes : field ≡ part s rec) where
+    pub q-short : length field ≤ 140
+    q-short = omega (arith, ap length (same-part at rec bytes), part-short (qText 1) rec)
+
+    pub q-ends : s .start + length field ≤ 256
+    q-ends = rw at (omega (arith, q-short))
 
 module _ (k : ℕ) (low : 2 ≤ k) (high : k < 10) {s : Span} (at : s ≡ tText k) where
   pub t-in : (rec : List ℕ) → length rec ≡ 768 → Inside (length rec) s
   t-in rec l = inside at (text-inside k low high) l
 
-  pub t-short : (rec : List ℕ) {field : List ℕ} → field ≡ part s rec → length field ≤ 140
-  t-short rec bytes = omega (arith, ap length (same-part at rec bytes), part-short (tText k) rec, text-short k low high)
+  module _ (rec : List ℕ) {field : List ℕ} (bytes : field ≡ part s rec) where
+    pub t-short : length field ≤ 140
+    t-short = omega (arith, ap length (same-part at rec bytes), part-short (tText k) rec, text-short k low high)
+
+    pub t-ends : s .start + length field ≤ 768
+    t-ends =
+        let i = inside at (text-inside k low high) refl in
+        omega (arith, i .0, i .1, ap length bytes, part-short s rec)

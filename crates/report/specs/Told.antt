@@ -27,6 +27,7 @@ judged-sound file transfer cheque taken z = go (eqb (v .number) 0) refl z
   where
     v : Verdict
     v = verdictOf 0 file transfer cheque
+
     go : (b : Bool) → eqb (v .number) 0 ≡ b
         → cond b (cond (isTaken taken (fileNumber (slotAt file 0))) (refused 50 0) v) v .number ≡ 0
         → v .number ≡ 0

@@ -1,0 +1,78 @@
+-- The promise by what the code found: a refusal, which writes nothing, or success.
+use Prim.Native.Nat.{ℕ, _≤_, _<_}
+use mathlib.Core.Path.{_≡_, refl, sym, ap, _∙_}
+use mathlib.Core.List.{List}
+use native.Mathlib.Omega.{arith}
+use lib.ListN.{length}
+use Rattle.laws.specs.Choice.{on-lt, off-lt, on-eq, off-eq}
+use Rattle.judge.specs.Verdict.{verdictOf}
+use Rattle.judge.specs.Told.{sound-fits}
+use Rattle.judge.specs.declared.Verdict.{Verdict}
+use Rattle.forwarding.specs.Forwarded.{forwarded, notesOf}
+use Rattle.forwarding.specs.Put.{put}
+use Rattle.forwarding.specs.Noted.{Noted}
+use Rattle.prepare.specs.Sized.{Sized}
+use Rattle.prepare.specs.Prepared.{refused, done, sendOf, prepareBy, prepareOf, outputOf, notesAfter, SentAs, PreparedAs}
+use Rattle.prepare.specs.declared.Prepared.{Prepared}
+
+-- a refusal leaves the output and the note places as they are
+module _ (page : ℕ) (file : List ℕ) {r : Prepared} {number rec : ℕ} (e : r ≡ refused number rec) (some : 0 < number) where
+  no-zero : r .number ≡ 0 → ⊥
+  no-zero z = omega (arith, ap (λ (r : Prepared). r .number) e)
+
+  out-kept : (out : List ℕ) → out ≡ outputOf r page file out
+  out-kept out = off-eq _ no-zero refl
+
+  notes-kept : (notes : List ℕ) → notes ≡ notesAfter r page file notes
+  notes-kept notes = off-eq _ no-zero refl
+
+module _ (page : ℕ) (file out notes : List ℕ) where
+  refuses : {r : Prepared} {number rec : ℕ} → r ≡ refused number rec → 0 < number → refused number rec ≡ sendOf page file out notes
+      → SentAs page file out notes r out notes
+  refuses e some q =
+      record { answer-is = e ∙ q; out-is = out-kept page file e some out; notes-are = notes-kept page file e some notes }
+
+  pub sent-60 : {r : Prepared} → r ≡ refused 60 0 → length out < length file → SentAs page file out notes r out notes
+  unfolding sendOf
+  sent-60 e h = refuses e (omega arith) (on-lt _ h refl)
+
+  module _ (room : length file ≤ length out) where
+    pub sent-61 : {r : Prepared} → r ≡ refused 61 0 → length notes < length (notesOf page file) → SentAs page file out notes r out notes
+    unfolding sendOf
+    sent-61 e h = refuses e (omega arith) (off-lt _ room (on-lt _ h refl))
+
+    pub sent-0 : {n : ℕ} {out' notes' : List ℕ} → length (notesOf page file) ≤ length notes → out' ≡ put 0 (forwarded page file) out
+        → Noted (notesOf page file) 0 notes notes' n → SentAs page file out notes (done n) out' notes'
+    unfolding sendOf
+    sent-0 {n} places e noted =
+        let all : n ≡ length (notesOf page file) = omega (arith, noted .next-is) in
+        record {
+          answer-is = off-lt (refused 60 0) room (off-lt (refused 61 0) places (ap done all));
+          out-is = e;
+          notes-are = noted .places-are;
+        }
+
+-- soundness decides first
+module _ (page : ℕ) (file transfer cheque : List ℕ) {v : Verdict} (e : v ≡ verdictOf page file transfer cheque) where
+  pub sound-sized : v .number ≡ 0 → Sized file
+  sound-sized z =
+      let f = sound-fits page file transfer cheque (sym (ap (λ (v : Verdict). v .number) e) ∙ z) in
+      record { payments = f .0; long = f .2 .long; most = f .2 .most }
+
+  module _ (out notes : List ℕ) where
+    by-verdict : {r : Prepared} → r ≡ prepareBy v page file out notes → r ≡ prepareOf page file transfer cheque out notes
+    unfolding prepareOf
+    by-verdict q = q ∙ ap (λ (v : Verdict). prepareBy v page file out notes) e
+
+    pub prepared-refused : {r : Prepared} → (v .number ≡ 0 → ⊥) → r ≡ refused (v .number) (v .rec)
+        → PreparedAs page file transfer cheque out notes r out notes
+    prepared-refused real q =
+        record {
+          answer-is = by-verdict (off-eq _ real q);
+          out-is = out-kept page file q (omega arith) out;
+          notes-are = notes-kept page file q (omega arith) notes;
+        }
+
+    pub prepared-sent : {r : Prepared} {out' notes' : List ℕ} → v .number ≡ 0 → SentAs page file out notes r out' notes'
+        → PreparedAs page file transfer cheque out notes r out' notes'
+    prepared-sent z s = record { answer-is = by-verdict (on-eq _ z (s .answer-is)); out-is = s .out-is; notes-are = s .notes-are }

@@ -1,0 +1,52 @@
+-- Document 01, "What each call answers": prepare, on a code page. The call of document 01 reads page 0.
+use Prim.Native.Nat.{ℕ}
+use mathlib.Core.Path.{_≡_}
+use mathlib.Core.Bool.{cond}
+use mathlib.Core.List.{List}
+use lib.Dec.{eqb, ltb}
+use lib.ListN.{length}
+use Rattle.judge.specs.Verdict.{verdictOf}
+use Rattle.judge.specs.declared.Verdict.{Verdict}
+use Rattle.forwarding.specs.Forwarded.{forwarded, notesOf}
+use Rattle.forwarding.specs.Put.{put}
+use Rattle.prepare.specs.declared.Prepared.{Prepared}
+
+-- "The answer gives the number of notes; 0 when refused."
+abbrev pub refused : ℕ → ℕ → Prepared
+refused number rec = record { number = number; rec = rec; notes = 0 }
+
+abbrev pub done : ℕ → Prepared
+done notes = record { number = 0; rec = 0; notes = notes }
+
+-- "then 60, then 61, each only in that case; record 0 for both and for success": of the file to send
+unfoldable pub sendOf : ℕ → List ℕ → List ℕ → List ℕ → Prepared
+sendOf page file out notes =
+    cond (ltb (length out) (length file)) (refused 60 0)
+    (cond (ltb (length notes) (length (notesOf page file))) (refused 61 0) (done (length (notesOf page file))))
+
+-- "reads soundness" before that
+abbrev pub prepareBy : Verdict → ℕ → List ℕ → List ℕ → List ℕ → Prepared
+prepareBy verdict page file out notes =
+    cond (eqb (verdict .number) 0) (sendOf page file out notes) (refused (verdict .number) (verdict .rec))
+
+unfoldable pub prepareOf : ℕ → List ℕ → List ℕ → List ℕ → List ℕ → List ℕ → Prepared
+prepareOf page file transfer cheque out notes = prepareBy (verdictOf page file transfer cheque) page file out notes
+
+-- "If 0, the output begins with the forwarded file and the rest of it keeps its bytes"; else it keeps them all
+abbrev pub outputOf : Prepared → ℕ → List ℕ → List ℕ → List ℕ
+outputOf answer page file out = cond (eqb (answer .number) 0) (put 0 (forwarded page file) out) out
+
+-- "the note places begin with the notes and the rest keep their numbers"; else they keep them all
+abbrev pub notesAfter : Prepared → ℕ → List ℕ → List ℕ → List ℕ
+notesAfter answer page file notes = cond (eqb (answer .number) 0) (put 0 (notesOf page file) notes) notes
+
+-- what is promised of sending a file, and of preparing one: the answer, the output and the note places, for every input
+pub record SentAs (page : ℕ) (file out notes : List ℕ) (answer : Prepared) (out' notes' : List ℕ) : Type 0 where
+  pub answer-is : answer ≡ sendOf page file out notes
+  pub out-is : out' ≡ outputOf answer page file out
+  pub notes-are : notes' ≡ notesAfter answer page file notes
+
+pub record PreparedAs (page : ℕ) (file transfer cheque out notes : List ℕ) (answer : Prepared) (out' notes' : List ℕ) : Type 0 where
+  pub answer-is : answer ≡ prepareOf page file transfer cheque out notes
+  pub out-is : out' ≡ outputOf answer page file out
+  pub notes-are : notes' ≡ notesAfter answer page file notes
