@@ -2,10 +2,9 @@
 -- each note's byte at its place. The laws: a pair is accepted where nothing is left to replace and each note fits
 -- (`accepts-by-notes`), and then the merged bytes are the bytes with each note put in place (`merged-by-notes`).
 use Prim.Native.Nat.{ℕ, suc, _+_, _/_, _%_, _≤_, _<_}
-use mathlib.Core.Path.{_≡_, refl, sym, ap, ap₂, _∙_}
-use mathlib.Core.Bool.{Bool, true, false, _&&_, not, cond, and-assoc, and-true, and-false, false≢true}
+use mathlib.Core.Path.{_≡_, refl, sym, ap, _∙_}
+use mathlib.Core.Bool.{Bool, true, false, _&&_, not, cond, and-assoc, and-true, and-false}
 use mathlib.Core.List.{List, [], _∷_, _++_}
-use native.Mathlib.Numerals.{add-one}
 use native.Mathlib.Omega.{arith}
 use borrow.Author.Tests.{eqb-true, eqb-false, eq-eqb, le-leb, lt-leb, leb-true, leb-false, ltb-true, le-ltb, lt-ltb}
 use lib.Dec.{eqb, leb, ltb}

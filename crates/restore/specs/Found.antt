@@ -1,6 +1,6 @@
 -- Whether a place is text, and whether a note fits, by what the code found.
 use Prim.Native.Nat.{ℕ, _+_, _-_, _/_, _%_, _≤_, _<_}
-use mathlib.Core.Path.{_≡_, refl, sym, ap, ap₂, _∙_}
+use mathlib.Core.Path.{_≡_, sym, ap, _∙_}
 use mathlib.Core.Bool.{Bool, true, false, _&&_, _||_, not, cond, and-false, or-false, or-assoc}
 use mathlib.Core.List.{List}
 use native.Mathlib.Omega.{arith}

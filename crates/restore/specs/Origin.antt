@@ -2,21 +2,24 @@
 -- notes. Restore accepts a pair exactly when some sound file yields it, and gives back that very file. The forwarded file is
 -- sound and yields itself, with no notes." The theorems: `one-sound-file`; `accepts-only` and `gives-back`; `yields-itself`.
 -- And the promise of restore leaves one outcome: `one-outcome`.
-use Prim.Native.Nat.{ℕ, _≤_}
+use Prim.Native.Nat.{ℕ, _+_, _≤_}
 use mathlib.Core.Path.{_≡_, refl, sym, ap, ap₂, subst, _∙_}
 use mathlib.Core.Bool.{Bool, true, false, _&&_, cond}
 use mathlib.Core.List.{List, []}
 use native.Mathlib.Omega.{arith}
-use borrow.Author.Tests.{eq-eqb, ne-eqb, eqb-true, ltb-false}
+use borrow.Author.Tests.{eq-eqb, eqb-true, eqb-false, ltb-false}
 use lib.Dec.{eqb, ltb}
-use lib.ListN.{length}
-use Rattle.laws.specs.Choice.{on, off, off-lt}
+use lib.ListN.{length, take, drop}
+use lib.Seq.{take-at}
+use Rattle.laws.specs.Choice.{on, on-eq, off-eq, off-lt}
 use Rattle.judge.specs.Verdict.{verdictOf}
 use Rattle.judge.specs.declared.Verdict.{Verdict}
 use Rattle.forwarding.specs.Forwarded.{forwarded, notesOf}
 use Rattle.forwarding.specs.Merge.{originalOf, isPair}
 use Rattle.forwarding.specs.Put.{put}
 use Rattle.forwarding.specs.RoundTrip.{Bytes, both, forwarded-length, forwarded-forwarded, forwarded-notes, forwarded-bytes, original-back, pair-yielded, pair-yields, original-bytes}
+use Rattle.prepare.specs.Prepared.{refused, done, sendOf, prepareOf, PreparedAs}
+use Rattle.prepare.specs.declared.Prepared.{Prepared}
 use Rattle.alike.specs.Files.{judged-alike}
 use Rattle.restore.specs.Restored.{answer, isYielded, restoreOf, outputOf, RestoredAs}
 use Rattle.restore.specs.declared.Restored.{Restored}
@@ -93,12 +96,12 @@ module _ (page : ℕ) (transfer cheque : List ℕ) where
     -- a sound file that yields the pair comes back
     pub gives-back : (file : List ℕ) → SoundOrigin page transfer cheque file sent notes → length sent ≤ length out
         → (given ≡ answer 0) × (out' ≡ put 0 file out)
-    unfolding restoreOf outputOf
+    unfolding restoreOf
     gives-back file o room =
         let zero : given ≡ answer 0 = promise .answer-is ∙ sym (off-lt _ room (on _ (origin-yielded file sent notes o) refl)) in (
           zero,
-          promise .output-is
-              ∙ sym (on _ (eq-eqb _ _ (ap (λ (r : Restored). r .number) (sym (promise .answer-is) ∙ zero))) refl)
+          promise .out-is
+              ∙ sym (on-eq _ (ap (λ (r : Restored). r .number) zero) refl)
               ∙ ap (λ (s : List ℕ). put 0 s out) (very-file file sent notes o),
         )
 
@@ -112,17 +115,52 @@ module _ (page : ℕ) (transfer cheque : List ℕ) where
 
     -- a refused call changes no byte
     pub refused-keeps : (given .number ≡ 0 → ⊥) → out' ≡ out
-    unfolding outputOf
-    refused-keeps z = promise .output-is ∙ sym (off _ (ne-eqb _ _ (λ q. z (ap (λ (r : Restored). r .number) (promise .answer-is) ∙ q))) refl)
+    refused-keeps z = promise .out-is ∙ sym (off-eq _ z refl)
 
   -- the promise leaves one outcome
   pub one-outcome : (sent notes out o o' : List ℕ) (a a' : Restored) → RestoredAs page sent notes transfer cheque out a o
       → RestoredAs page sent notes transfer cheque out a' o' → (a ≡ a') × (o ≡ o')
-  one-outcome sent notes out o o' a a' p q = (p .answer-is ∙ sym (q .answer-is), p .output-is ∙ sym (q .output-is))
+  one-outcome sent notes out o o' a a' p q =
+      let same = p .answer-is ∙ sym (q .answer-is) in
+      (same, p .out-is ∙ ap (λ (given : Restored). outputOf given sent notes out) same ∙ sym (q .out-is))
 
-  -- what a sound file was forwarded as, with its notes, restores to it
-  pub comes-back : (file out out' : List ℕ) (given : Restored) → Bytes file → verdictOf page file transfer cheque .number ≡ 0 → length file ≤ length out
-      → RestoredAs page (forwarded page file) (notesOf page file) transfer cheque out given out' → (given ≡ answer 0) × (out' ≡ put 0 file out)
-  comes-back file out out' given h s room p =
-      gives-back (forwarded page file) (notesOf page file) out out' given p file
-      (record { bytes = h; sound = s; forwards = refl; notes-are = refl }) (rw (forwarded-length page file) room)
+  -- what prepare left comes from the file that it prepared
+  module _ (file out notes out' notes' : List ℕ) (given : Prepared) (promise : PreparedAs page file transfer cheque out notes given out' notes')
+      (z : given .number ≡ 0) where
+    success : (verdictOf page file transfer cheque .number ≡ 0) × (given .notes ≡ length (notesOf page file))
+    unfolding prepareOf sendOf
+    success = go (eqb (verdictOf page file transfer cheque .number) 0) (ltb (length out) (length file)) (ltb (length notes) (length (notesOf page file))) refl (promise .answer-is)
+      where
+        number-is : {r : Prepared} → given ≡ r → r .number ≡ 0
+        number-is e = sym (ap (λ (r : Prepared). r .number) e) ∙ z
+
+        go : (sound short few : Bool) → eqb (verdictOf page file transfer cheque .number) 0 ≡ sound
+            → given ≡ cond sound (cond short (refused 60 0) (cond few (refused 61 0) (done (length (notesOf page file))))) (refused (verdictOf page file transfer cheque .number) (verdictOf page file transfer cheque .rec))
+            → (verdictOf page file transfer cheque .number ≡ 0) × (given .notes ≡ length (notesOf page file))
+        go true false false p e = (eqb-true _ _ p, ap (λ (r : Prepared). r .notes) e)
+        go true false true p e = absurd (omega (arith, number-is e))
+        go true true few p e = absurd (omega (arith, number-is e))
+        go false short few p e = absurd (eqb-false _ _ p (number-is e))
+
+    pub prepared-origin : Bytes file → SoundOrigin page transfer cheque file (take (length file) out') (take (given .notes) notes')
+    prepared-origin h =
+        record {
+          bytes = h;
+          sound = success .0;
+          forwards =
+              sym (ap (take (length file)) (promise .out-is ∙ sym (on-eq _ z refl))
+              ∙ take-at (forwarded page file) (drop (0 + length (forwarded page file)) out) (length file) (forwarded-length page file));
+          notes-are =
+              sym (ap (take (given .notes)) (promise .notes-are ∙ sym (on-eq _ z refl))
+              ∙ take-at (notesOf page file) (drop (0 + length (notesOf page file)) notes) (given .notes) (sym (success .1)));
+        }
+
+  -- and restores to it
+  pub comes-back : (file out notes out' notes' room room' : List ℕ) (prepared : Prepared) (restored : Restored) → Bytes file → prepared .number ≡ 0
+      → PreparedAs page file transfer cheque out notes prepared out' notes'
+      → RestoredAs page (take (length file) out') (take (prepared .notes) notes') transfer cheque room restored room'
+      → length file ≤ length room → (restored ≡ answer 0) × (room' ≡ put 0 file room)
+  comes-back file out notes out' notes' room room' prepared restored h z p q l =
+      let o = prepared-origin file out notes out' notes' prepared p z h in
+      gives-back (take (length file) out') (take (prepared .notes) notes') room room' restored q file o
+      (rw (sym (ap length (o .forwards)) ∙ forwarded-length page file) l)

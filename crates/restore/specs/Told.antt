@@ -1,33 +1,24 @@
 -- The answer and the output by what the call found: the room, the verdict, what is left to replace, and the notes.
-use Prim.Native.Nat.{ℕ, _+_, _*_, _≤_, _<_}
-use mathlib.Core.Path.{_≡_, refl, sym, ap, ap₂, _∙_}
-use mathlib.Core.Bool.{Bool, true, false, _&&_, not, cond, and-false}
+use Prim.Native.Nat.{ℕ, _+_, _≤_, _<_}
+use mathlib.Core.Path.{_≡_, refl, sym, ap, _∙_}
+use mathlib.Core.Bool.{Bool, true, false, _&&_}
 use mathlib.Core.List.{List, [], _++_}
 use native.Mathlib.Omega.{arith}
-use borrow.Author.Tests.{lt-ltb, le-ltb, eq-eqb, ne-eqb, eqb-false, not-true, not-false}
-use lib.Dec.{eqb, ltb}
+use borrow.Author.Tests.{eq-eqb, ne-eqb}
+use lib.Dec.{eqb}
 use lib.ListN.{length, take, drop, length-append}
 use lib.Seq.{take-length}
-use Rattle.laws.specs.Choice.{on, off, on-lt, off-lt}
+use Rattle.laws.specs.Choice.{on, off, off-eq, on-lt, off-lt}
 use Rattle.charset.specs.Table.{rep, rep-rep}
 use Rattle.judge.specs.Verdict.{verdictOf}
-use Rattle.judge.specs.Told.{sound-fits}
 use Rattle.judge.specs.declared.Verdict.{Verdict}
 use Rattle.forwarding.specs.Text.{textAt}
 use Rattle.forwarding.specs.Forwarded.{notesOf}
 use Rattle.forwarding.specs.Merge.{originalOf, isPair}
 use Rattle.forwarding.specs.Put.{put}
 use Rattle.forwarding.specs.RoundTrip.{both, pair-alone}
-use Rattle.prepare.specs.Sized.{Sized}
 use Rattle.restore.specs.ByNotes.{notesFit, putNotes, inside, accepts-by-notes, merged-by-notes, notes-inside, inside-more, notes-in-front, notes-length}
-use Rattle.restore.specs.Restored.{answer, isYielded, restoreOf, outputOf, RestoredAs}
-use Rattle.restore.specs.declared.Restored.{Restored}
-
--- what is not refused is as long as its records
-pub sized : (page : ℕ) (file transfer cheque : List ℕ) {v : Verdict} → v ≡ verdictOf page file transfer cheque → v .number ≡ 0 → Sized file
-sized page file transfer cheque e z =
-    let f = sound-fits page file transfer cheque (sym (ap (λ (v : Verdict). v .number) e) ∙ z) in
-    record { payments = f .0; long = f .2 .long; most = f .2 .most }
+use Rattle.restore.specs.Restored.{answer, isYielded, restoreOf, RestoredAs}
 
 -- whether a sound file yields the pair: v is the verdict, n how many characters are left to replace, fit whether
 -- the notes fit
@@ -77,12 +68,7 @@ module _ (page : ℕ) (g ns transfer cheque : List ℕ) where
 module _ (page : ℕ) (g ns transfer cheque out : List ℕ) where
   keeps : (n : ℕ) → (n ≡ 0 → ⊥) → answer n ≡ restoreOf page g ns transfer cheque (length out)
       → RestoredAs page g ns transfer cheque out (answer n) out
-  unfolding outputOf
-  keeps n z e =
-      record {
-        answer-is = e;
-        output-is = off _ (ne-eqb _ _ (λ q. z (ap (λ (r : Restored). r .number) e ∙ q))) refl;
-      }
+  keeps n z e = record { answer-is = e; out-is = off-eq _ z refl }
 
   pub too-short : length out < length g → RestoredAs page g ns transfer cheque out (answer 60) out
   unfolding restoreOf
@@ -94,15 +80,12 @@ module _ (page : ℕ) (g ns transfer cheque out : List ℕ) where
     refuses y = keeps 70 (λ z. omega arith) (off-lt _ room (off _ (sym e ∙ y) refl))
 
     pub restores : {out' : List ℕ} → t ≡ true → out' ≡ put 0 (putNotes g ns) out → RestoredAs page g ns transfer cheque out (answer 0) out'
-    unfolding restoreOf outputOf
+    unfolding restoreOf
     restores y h =
         let yes = sym e ∙ y in
-        let a : answer 0 ≡ restoreOf page g ns transfer cheque (length out) = off-lt _ room (on _ yes refl) in
         record {
-          answer-is = a;
-          output-is =
-              on _ (eq-eqb _ _ (sym (ap (λ (r : Restored). r .number) a)))
-              (h ∙ ap (λ (s : List ℕ). put 0 s out) (original-is page g ns transfer cheque yes));
+          answer-is = off-lt (answer 60) room (on (answer 70) yes refl);
+          out-is = h ∙ ap (λ (s : List ℕ). put 0 s out) (original-is page g ns transfer cheque yes);
         }
 
 -- what is written: the file is copied, and the notes are put back

@@ -123,7 +123,7 @@ fn write(forwarded: &[u8], notes: &[u32], out: &mut [u8])
 }
 
 // On a code page. Nothing is written before everything is checked.
-fn restore_on(
+fn on_page(
     page: u32,
     forwarded: &[u8],
     notes: &[u32],
@@ -153,5 +153,5 @@ pub fn restore(
 ) -> Restored
     ensures { λ r. ⌜ RestoredAs 0 (now (forwarded .entry)) (now (notes .entry)) (now (transfer .entry)) (now (cheque .entry)) (now (out .entry)) r (now (out .exit)) ⌝ }
 {
-    restore_on(0, forwarded, notes, transfer, cheque, out)
+    on_page(0, forwarded, notes, transfer, cheque, out)
 }

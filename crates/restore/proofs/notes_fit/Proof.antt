@@ -1,7 +1,7 @@
 -- Whether the notes that are left fit, from the place after the last one, is whether all fit.
 use borrow.Author.Needs.{needs}
 use native.Mathlib.Omega.{arith}
-use mathlib.Core.Path.{_≡_, refl, sym, ap, _∙_}
+use mathlib.Core.Path.{_≡_, refl}
 use Prim.Native.Nat.{_-_}
 use lib.ListN.{length, drop}
 use Rattle.laws.specs.Steps.{over}

@@ -3,7 +3,7 @@ use borrow.Author.Needs.{needs}
 use native.Mathlib.Omega.{arith}
 use mathlib.Core.Path.{_≡_, refl}
 use mathlib.Core.Bool.{true}
-use Prim.Native.Nat.{ℕ, _-_}
+use Prim.Native.Nat.{_-_}
 use lib.ListN.{length, drop, length-set}
 use Rattle.laws.specs.Steps.{fold-on, fold-over}
 use Rattle.restore.specs.ByNotes.{inside, inside-next, putNote, putNotes}

@@ -1,8 +1,8 @@
 use borrow.Author.Needs.{needs}
 use mathlib.Core.Path.{sym, _∙_}
 use Rattle.restore.specs.Told.{too-short, refuses, restores, notes-in-file}
-use Rattle.restore.proofs.restore_on.Statement.{statement}
-use Rattle.restore.proofs.restore_on.Tie as tie
+use Rattle.restore.proofs.on_page.Statement.{statement}
+use Rattle.restore.proofs.on_page.Tie as tie
 
 -- what a sound file yields has its notes in the file
 write-requires : tie.Need-write-requires
@@ -12,8 +12,8 @@ returns-2 : tie.Need-returns-2
 returns-2 c =
     restores _ _ _ _ _ _ (c .before .before .before .before .before .before .if1 .left) (c .before .before .before .before .before .is-yielded .ensures) (c .before .before .before .before .if2 .taken) (c .before .before .write .ensures)
 
-pub restore-on-spec : {M : Type 1} → statement M
-restore-on-spec =
+pub on-page-spec : {M : Type 1} → statement M
+on-page-spec =
     tie.close
     (tie.spec
     (λ c. too-short _ _ _ _ _ _ (c .if1 .taken))
