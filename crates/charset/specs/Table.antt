@@ -22,12 +22,14 @@ abbrev pub unchanged : ℕ → Bool
 unchanged b =
     within (code "A") (code "Z") b || within (code "a") (code "z") b || within (code "0") (code "9") b || among (ascii " .,-/+%") b
 
+-- the four German characters by page, and what they become
+abbrev pub german : ℕ → List (ℕ × ℕ)
+german zero = (0x5B, code "A") ∷ (0x5C, code "O") ∷ (0x5D, code "U") ∷ (0x7E, code "S") ∷ []
+german (suc _) = (0xC4, code "A") ∷ (0xD6, code "O") ∷ (0xDC, code "U") ∷ (0xDF, code "S") ∷ []
+
 -- a byte that is not unchanged, and what it becomes
 abbrev pub exceptions : ℕ → List (ℕ × ℕ)
-exceptions zero =
-    (code "&", code "+") ∷ (code "$", code "S") ∷ (0x5B, code "A") ∷ (0x5C, code "O") ∷ (0x5D, code "U") ∷ (0x7E, code "S") ∷ []
-exceptions (suc _) =
-    (code "&", code "+") ∷ (code "$", code "S") ∷ (0xC4, code "A") ∷ (0xD6, code "O") ∷ (0xDC, code "U") ∷ (0xDF, code "S") ∷ []
+exceptions page = (code "&", code "+") ∷ (code "$", code "S") ∷ german page
 
 -- what the first row for b says; a space where there is none
 abbrev pub look : List (ℕ × ℕ) → ℕ → ℕ
@@ -84,7 +86,6 @@ changes-are page b = go (unchanged b) refl
     go false e = ne-eqb (rep page b) b (λ q. false≢true (sym e ∙ ap unchanged (sym q) ∙ rep-unchanged page b))
 
 -- every page but 0 is page 1
-pub other-page : (page b : ℕ) → (page ≡ 0 → ⊥) → rep page b ≡ rep 1 b
-unfolding rep
+pub other-page : (page b : ℕ) → (page ≡ 0 → ⊥) → look (german page) b ≡ look (german 1) b
 other-page zero b h = absurd (h refl)
 other-page (suc _) b h = refl

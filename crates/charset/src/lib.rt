@@ -1,39 +1,6 @@
 // The character table by code page: one character, and a stretch of text in place.
 ghost use mathlib.Core.Path.{_≡_};
-ghost use Rattle.charset.specs.Table.{unchanged, rep, text};
-
-// Row by row of 32 codes. A row that begins with a space is written \x20, since a line's leading spaces do not count.
-const DIN_66003: [u8; 256] = *b"\
-    \x20                               \
-    \x20   S%+    +,-./0123456789      \
-    \x20ABCDEFGHIJKLMNOPQRSTUVWXYZAOU  \
-    \x20abcdefghijklmnopqrstuvwxyz   S \
-    \x20                               \
-    \x20                               \
-    \x20                               \
-    \x20                               ";
-
-const ISO_8859_1: [u8; 256] = *b"\
-    \x20                               \
-    \x20   S%+    +,-./0123456789      \
-    \x20ABCDEFGHIJKLMNOPQRSTUVWXYZ     \
-    \x20abcdefghijklmnopqrstuvwxyz     \
-    \x20                               \
-    \x20                               \
-    \x20   A                 O     U  S\
-    \x20                               ";
-
-// What a character becomes. Page 0 is DIN 66003, every other ISO 8859-1.
-pub fn replaced(page: u32, b: u8) -> u8
-    ensures { λ r. ⌜ r ≡ rep page b ⌝ }
-{
-    let i = b as usize;
-    if page == 0 {
-        DIN_66003[i]
-    } else {
-        ISO_8859_1[i]
-    }
-}
+ghost use Rattle.charset.specs.Table.{unchanged, german, look, rep, text};
 
 // Whether a character stays as it is, on every page. Comparisons alone: a loop over them is compiled to many bytes a step.
 pub fn unchanged(b: u8) -> bool
@@ -45,6 +12,51 @@ pub fn unchanged(b: u8) -> bool
         | ((b'+' <= b) & (b <= b'/'))
         | (b == b' ')
         | (b == b'%')
+}
+
+// The German characters at their DIN 66003 codes, and a space for anything else.
+fn din_66003(b: u8) -> u8
+    ensures { λ r. ⌜ r ≡ look (german 0) b ⌝ }
+{
+    match b {
+        0x5B => b'A',
+        0x5C => b'O',
+        0x5D => b'U',
+        0x7E => b'S',
+        _ => b' ',
+    }
+}
+
+// The same at their ISO 8859-1 codes.
+fn iso_8859_1(b: u8) -> u8
+    ensures { λ r. ⌜ r ≡ look (german 1) b ⌝ }
+{
+    match b {
+        0xC4 => b'A',
+        0xD6 => b'O',
+        0xDC => b'U',
+        0xDF => b'S',
+        _ => b' ',
+    }
+}
+
+// What a character becomes. Page 0 is DIN 66003, every other ISO 8859-1.
+pub fn replaced(page: u32, b: u8) -> u8
+    ensures { λ r. ⌜ r ≡ rep page b ⌝ }
+{
+    if unchanged(b) {
+        return b;
+    }
+    if b == b'&' {
+        return b'+';
+    }
+    if b == b'$' {
+        return b'S';
+    }
+    if page == 0 {
+        return din_66003(b);
+    }
+    iso_8859_1(b)
 }
 
 // A stretch of text is replaced where it stands.

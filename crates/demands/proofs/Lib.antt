@@ -1,1 +1,4 @@
 pub mod Cases
+pub mod Ranges
+pub mod Fitting
+pub mod Demand2

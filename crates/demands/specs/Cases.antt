@@ -2,23 +2,45 @@
 use Prim.Native.Nat.{ℕ}
 use Prim.Native.Char.{code}
 use mathlib.Core.Bool.{Bool, true, _&&_, not}
-use mathlib.Core.List.{List, [], _∷_}
+use Prim.Native.String.{String}
+use mathlib.Core.List.{List, [], _∷_, _++_}
 use lib.Dec.{eqb, T}
 use Rattle.laws.specs.Ascii.{ascii}
 use Rattle.charset.specs.Table.{rep}
 use Rattle.fields.specs.Class.{every}
 use Rattle.fields.specs.Number.{isDate}
 use Rattle.fields.specs.Bic.{bicShape}
+use Rattle.judge.specs.Verdict.{judgeOf}
+use Rattle.demands.specs.Sample.{q, t, z, transfer, cheque}
+
+-- the judge's answer to a file, without taken numbers: number and record
+abbrev answers : List ℕ → ℕ → ℕ → Bool
+answers file number rec =
+    let v = judgeOf file transfer cheque [] in
+    eqb (v .number) number && eqb (v .rec) rec
+
+-- one payment to a payee, and two payments of 120,50 and 79,75
+abbrev one : String → String → List ℕ
+one payee cents = q ++ t payee "00000000000120" cents ++ z "000000000000120" "000000000000001"
+
+abbrev two : String → List ℕ
+two euros = q ++ t "A. MUSTER" "00000000000120" "500" ++ t "B. MUSTER" "00000000000079" "750" ++ z euros "000000000000002"
 
 -- a case's number in document 01, and whether it holds
 abbrev pub cases : List (ℕ × Bool)
 cases =
-    (4, eqb (rep 0 (code "&")) (code "+"))
+    (1, answers [] 2 0)
+    ∷ (2, answers (ascii "0256") 2 0)
+    ∷ (3, answers (q ++ z "000000000000000" "000000000000000") 4 1)
+    ∷ (4, eqb (rep 0 (code "&")) (code "+"))
     ∷ (5, eqb (rep 0 0x5B) (code "A") && eqb (rep 0 0xC4) (code " "))
     ∷ (6, isDate (ascii "000229"))
     ∷ (7, not (isDate (ascii "010229")))
     ∷ (8, bicShape 0 (ascii "ABCDDEFF   "))
     ∷ (9, not (bicShape 0 (ascii "SC123456   ")))
+    ∷ (10, answers (one "A. MUSTER" "500") 0 0 && answers (one "A. MUSTER" "505") 33 1)
+    ∷ (11, answers (one "===================================" "500") 29 1)
+    ∷ (12, answers (two "000000000000199") 0 0 && answers (two "000000000000200") 42 3)
     ∷ []
 
 abbrev pub Cases : Type 0

@@ -1,1 +1,4 @@
+pub mod Sample
 pub mod Cases
+pub mod Broken
+pub mod Demand2

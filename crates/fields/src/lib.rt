@@ -145,13 +145,14 @@ pub fn bic_shaped(page: u32, t8: &[u8]) -> bool
 pub fn listed(list: &[u8], a: u8, b: u8) -> bool
     ensures { λ r. ⌜ r ≡ isListed (now (list .entry)) a b ⌝ }
 {
-    let mut found = false;
     let mut i = 0;
     while 1 < list.len() - i {
-        found = found | ((list[i] == a) & (list[i + 1] == b));
+        if (list[i] == a) & (list[i + 1] == b) {
+            return true;
+        }
         i += 2;
     }
-    found
+    false
 }
 
 // Whether n is one of the taken numbers.

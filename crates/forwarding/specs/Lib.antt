@@ -9,3 +9,5 @@ pub mod Pieces
 pub mod Noted
 pub mod Numbered
 pub mod Sent
+pub mod Merge
+pub mod RoundTrip

@@ -5,3 +5,5 @@ pub mod Sums
 pub mod Verdict
 pub mod Told
 pub mod Meaning
+pub mod ByRecords
+pub mod Small

@@ -1,15 +1,15 @@
 -- The sums over the T records: whole euros of T14a, and cents, "first two digits of T14b, added, not carried into euros".
 -- And a file's number, "the 18 digits of Q4, Q6, Q7 as one whole number".
-use Prim.Native.Nat.{ℕ, zero, suc, _+_, _*_, _-_, _^_, _≤_, _<_}
+use Prim.Native.Nat.{ℕ, zero, suc, _+_, _*_, _^_, _≤_, _<_}
 use mathlib.Core.Path.{_≡_, refl, sym, ap, _∙_}
 use mathlib.Core.List.{List, [], _∷_, _++_}
 use native.Mathlib.Nat.{pow-suc, pow-zero}
 use native.Mathlib.Numerals.{add-one}
 use native.Mathlib.Omega.{arith}
-use lib.ListN.{length, drop, length-take, length-append}
+use lib.ListN.{length, length-append}
 use Rattle.laws.specs.Steps.{fold}
 use Rattle.records.specs.Places.{_to_, part}
-use Rattle.records.specs.declared.Span.{Span}
+use Rattle.records.specs.Inside.{part-le}
 use Rattle.records.specs.declared.TField.the-variants.{T14a, T14b}
 use Rattle.records.specs.declared.QField.the-variants.{Q4, Q6, Q7}
 use Rattle.fields.specs.Number.{digitOf, dec}
@@ -62,10 +62,6 @@ dec-append s t = go s 0
         ≡ fold (λ (v b : ℕ). v * 10 + digitOf b) v s * 10 ^ length t + dec t
     go [] v = dec-from t v
     go (x ∷ s) v = go s (v * 10 + digitOf x)
-
-part-le : (s : Span) (rec : List ℕ) → length (part s rec) ≤ s .end - s .start
-unfolding part
-part-le s rec = rw (length-take (s .end - s .start) (drop (s .start) rec)) (omega arith)
 
 -- a payment's figures have 14 and 2 digits
 pub euros-lt : (rec : List ℕ) → euros rec < 100000000000000

@@ -18,6 +18,7 @@ pub struct Broken {
 }
 
 // The judge's answer. Number 0: sound, with the payments and both sums. Else the broken rule, its record, and zeros.
+#[repr(C)]
 pub struct Verdict {
     pub number: usize,
     pub rec: usize,
@@ -43,12 +44,12 @@ fn fault(
     if k == 0 {
         return rules::q::fault(page, structure::slot(file, 0), rule);
     }
-    let rec = structure::slot(file, k);
+    let slot = structure::slot(file, k);
     if k <= n {
         let key = payments::key(structure::slot(file, 1));
-        return payments::fault(page, transfer, cheque, key, rec, rule);
+        return payments::fault(page, transfer, cheque, key, slot, rule);
     }
-    rules::z::fault(n as u64, euros, rec, rule)
+    rules::z::fault(n as u64, euros, slot, rule)
 }
 
 // The rules of record k: from its first up to below its end.

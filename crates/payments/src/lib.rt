@@ -189,7 +189,8 @@ fn rule26(page: u32, transfer: &[u8], rec: &[u8]) -> usize
         return 0;
     }
     let t9a = T::field(rec, TField::T9a);
-    if has_bic(page, rec) {
+    let shaped = has_bic(page, rec);
+    if shaped {
         let right = fields::all(Class::Space, t9a) | is_two_capitals(t9a);
         return at(right, TField::T9a, 0);
     }

@@ -13,6 +13,7 @@ pub mod note;
 pub mod place;
 
 // Number 0, record 0 and how many notes there are; or the number of a refusal, its record, and 0.
+#[repr(C)]
 pub struct Prepared {
     pub number: usize,
     pub rec: usize,

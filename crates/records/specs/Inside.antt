@@ -5,7 +5,7 @@ use mathlib.Core.List.{List}
 use native.Mathlib.Omega.{arith}
 use mathlib.Core.Bool.{_&&_}
 use lib.Dec.{leb, leb→le, T}
-use lib.ListN.{length, length-take, length-drop}
+use lib.ListN.{length, drop, length-take, length-drop}
 use Rattle.records.specs.declared.Span.{Span}
 use Rattle.records.specs.declared.QField.{QField}
 use Rattle.records.specs.declared.QField.the-variants.{Q3, Q4, Q5, Q6, Q7, Q8, Q9, Q10, Q11, Q12}
@@ -83,3 +83,8 @@ pub held : {n : ℕ} {xs : List ℕ} (s : Span) (rec : List ℕ) → xs ≡ part
 unfolding part
 held s rec e h l =
     record { bytes = e; long = ap length e ∙ simp (length-take, length-drop) (omega (arith, h .0, h .1)) }
+
+-- a part is never longer than its place
+pub part-le : (s : Span) (rec : List ℕ) → length (part s rec) ≤ s .end - s .start
+unfolding part
+part-le s rec = rw (length-take (s .end - s .start) (drop (s .start) rec)) (omega arith)

@@ -11,12 +11,16 @@ abbrev pub byNumber : List (ℕ × ℕ) → ℕ → ℕ
 byNumber [] rule = 0
 byNumber (row ∷ rows) rule = cond (eqb rule (row .0)) (row .1) (byNumber rows rule)
 
+abbrev pub qRules : ℕ → List ℕ → List (ℕ × ℕ)
+qRules page rec =
+    (10, rule10 rec) ∷ (11, rule11 rec) ∷ (12, rule12 page rec) ∷ (13, rule13 rec) ∷ (14, rule14 rec) ∷ (15, rule15 rec)
+    ∷ (16, rule16 rec) ∷ []
+
 unfoldable pub qFault : ℕ → List ℕ → ℕ → ℕ
-qFault page rec =
-    byNumber
-    ((10, rule10 rec) ∷ (11, rule11 rec) ∷ (12, rule12 page rec) ∷ (13, rule13 rec) ∷ (14, rule14 rec) ∷ (15, rule15 rec)
-    ∷ (16, rule16 rec) ∷ [])
+qFault page rec = byNumber (qRules page rec)
+
+abbrev pub zRules : ℕ → ℕ → List ℕ → List (ℕ × ℕ)
+zRules payments euros rec = (40, rule40 rec) ∷ (41, rule41 payments rec) ∷ (42, rule42 euros rec) ∷ []
 
 unfoldable pub zFault : ℕ → ℕ → List ℕ → ℕ → ℕ
-zFault payments euros rec =
-    byNumber ((40, rule40 rec) ∷ (41, rule41 payments rec) ∷ (42, rule42 euros rec) ∷ [])
+zFault payments euros rec = byNumber (zRules payments euros rec)

@@ -2,13 +2,14 @@
 -- came to and could not pass. The bound of the search never answers: a file of at most 7,679,744 bytes ends before it.
 use Prim.Native.Nat.{ℕ, _+_, _*_, _-_, _≤_, _<_}
 use Prim.Native.Char.{code}
-use mathlib.Core.Path.{_≡_, refl, sym, ap, _∙_}
+use mathlib.Core.Path.{_≡_, refl, sym, ap, subst, _∙_}
 use mathlib.Core.Bool.{Bool, true, false, _||_, not, cond, false≢true, true≢false}
 use mathlib.Core.List.{List}
-use mathlib.Core.Logic.{_⊎_, inl, inr}
+use mathlib.Core.Logic.{_⊎_, inl, inr, ⊎-elim}
+use native.Mathlib.Nat.{eq-or-lt-of-le}
 use native.Mathlib.Omega.{arith}
-use borrow.Author.Tests.{ltb-true, ltb-false, eqb-true, eqb-false, eq-eqb, ne-eqb, not-false, lt-ltb}
-use lib.Dec.{eqb, ltb}
+use borrow.Author.Tests.{leb-true, leb-false, ltb-true, ltb-false, eqb-true, eqb-false, eq-eqb, ne-eqb, not-false, lt-ltb}
+use lib.Dec.{eqb, leb, ltb}
 use lib.ListN.{length}
 use Rattle.laws.specs.Scan.{Means, means, FoundAt, first}
 use Rattle.structure.specs.Slots.{slotAt}
@@ -109,3 +110,22 @@ tells file = go (ltb 7679744 (length file)) refl
 -- a file that fits has 512 + 768 n bytes, with 1 to 9,999 T records
 pub fits : (file : List ℕ) (n : ℕ) → structureOf file ≡ Fits n → Fit file n
 fits file n e = (rw e at (tells file)) .1
+
+-- and the other way round: whole records up to a Z are what the walk finds
+pub fit-found : (file : List ℕ) (n : ℕ) → Fit file n → structureOf file ≡ Fits n
+fit-found file n f = go (structureOf file) (tells file)
+  where
+    stuck : (number k : ℕ) → Stuck file number k → (b : Bool) → leb k (n + 1) ≡ b → ⊥
+    stuck number k s false e = s .due (n + 1) (leb-false k (n + 1) e) .no-z (f .z)
+    stuck number k s true e =
+        ⊎-elim
+        (λ (q : k ≡ n + 1). s .real (sym (s .broken) ∙ subst (λ (j : ℕ). faultIn j (slotAt file j) ≡ 0) (sym q) (f .right)))
+        (λ (l : k < n + 1). s .real (sym (s .broken) ∙ f .due k l .right))
+        (eq-or-lt-of-le (leb-true k (n + 1) e))
+
+    go : (s : Shape) → Tells file s → s ≡ Fits n
+    go (Fits m) t =
+        let same : m ≡ n = omega (arith, t .1 .long, f .long) in
+        ap Fits same
+    go (Refused number k) (inl t) = absurd (omega (arith, t .0, f .long, f .most))
+    go (Refused number k) (inr t) = absurd (stuck number k (t .1) (leb k (n + 1)) refl)

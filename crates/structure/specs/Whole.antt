@@ -70,7 +70,7 @@ no-fault k slot w =
     go false e = refl
 
 -- the letter by the record's number
-letter-q : (k letter : ℕ) → k ≡ 0 → allowed k letter ≡ true → letter ≡ code "Q"
+pub letter-q : (k letter : ℕ) → k ≡ 0 → allowed k letter ≡ true → letter ≡ code "Q"
 letter-q k letter z e = eqb-true letter (code "Q") (sym (ap (λ (t : Bool). cond t (eqb letter (code "Q")) (eqb letter (code "T") || (eqb letter (code "Z") && leb 2 k))) (eq-eqb k 0 z)) ∙ e)
 
 letter-later : (k letter : ℕ) → 1 ≤ k → allowed k letter ≡ true → eqb letter (code "T") || (eqb letter (code "Z") && leb 2 k) ≡ true

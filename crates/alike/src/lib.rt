@@ -1,0 +1,1 @@
+// A law only, in specs/: no function.

@@ -1,0 +1,38 @@
+-- Restoring, place by place: the forwarded bytes with each note's byte put back at its place, and which pairs of forwarded
+-- bytes and notes there are. Both lists are read by rising place. So a note that falls back, that stands at the place of
+-- the one before it, or past the last byte, is never reached, and the pair is refused.
+use Prim.Native.Nat.{ℕ, suc, _/_, _%_}
+use mathlib.Core.Bool.{Bool, true, false, _&&_, not, cond}
+use mathlib.Core.List.{List, [], _∷_}
+use lib.Dec.{eqb}
+use lib.ListN.{length}
+use Rattle.charset.specs.Table.{rep}
+use Rattle.forwarding.specs.Text.{textAt}
+use Rattle.forwarding.specs.Forwarded.{differs}
+
+-- the bytes, of which the first stands at place i, with the notes put back
+abbrev pub merged : ℕ → List ℕ → List ℕ → List ℕ
+merged i [] notes = []
+merged i (b ∷ bytes) [] = b ∷ bytes
+merged i (b ∷ bytes) (v ∷ notes) =
+    cond (eqb (v / 256) i) (v % 256 ∷ merged (suc i) bytes notes) (b ∷ merged (suc i) bytes (v ∷ notes))
+
+-- the byte `was` is changed at place i, and becomes b
+abbrev pub becomes : (ℕ → ℕ) → (ℕ → Bool) → ℕ → ℕ → ℕ → Bool
+becomes r text i was b = differs r text i was && eqb (r was) b
+
+-- some bytes, of which the first stands at place i, have these forwarded bytes and these notes
+abbrev pub accepts : (ℕ → ℕ) → (ℕ → Bool) → ℕ → List ℕ → List ℕ → Bool
+accepts r text i [] [] = true
+accepts r text i [] (v ∷ notes) = false
+accepts r text i (b ∷ bytes) [] = not (differs r text i b) && accepts r text (suc i) bytes []
+accepts r text i (b ∷ bytes) (v ∷ notes) =
+    cond (eqb (v / 256) i) (becomes r text i (v % 256) b && accepts r text (suc i) bytes notes)
+    (not (differs r text i b) && accepts r text (suc i) bytes (v ∷ notes))
+
+-- of a whole forwarded file, on a code page
+unfoldable pub originalOf : List ℕ → List ℕ → List ℕ
+originalOf bytes notes = merged 0 bytes notes
+
+unfoldable pub isPair : ℕ → List ℕ → List ℕ → Bool
+isPair page bytes notes = accepts (rep page) (textAt (length bytes)) 0 bytes notes

@@ -1,0 +1,78 @@
+// The calls for hosts in C. Lent slices pass as pointer and count.
+use judge::Verdict;
+use prepare::Prepared;
+use restore::Restored;
+ghost use mathlib.Core.Path.{_≡_};
+ghost use mathlib.Core.List.{[]};
+ghost use Rattle.judge.specs.Verdict.{judgeOf};
+ghost use Rattle.prepare.specs.Prepared.{PreparedAs};
+ghost use Rattle.restore.specs.Restored.{RestoredAs};
+ghost use Rattle.show.specs.Shown.{shownAt};
+ghost use Rattle.host.specs.Answers.{answerOf, partOf};
+
+// The judge of document 01 for payroll hosts: no taken numbers, record × 100 + number.
+#[no_mangle]
+pub extern "C" fn desk_judge(file: &[u8], transfer: &[u8], cheque: &[u8]) -> usize
+    ensures { λ r. ⌜ r ≡ answerOf (judgeOf (now (file .entry)) (now (transfer .entry)) (now (cheque .entry)) []) ⌝ }
+{
+    let none = [0u64; 1];
+    let found = judge::judge(file, transfer, cheque, &none[..0]);
+    found.rec * 100 + found.number
+}
+
+#[no_mangle]
+pub extern "C" fn desk_judge_full(
+    file: &[u8],
+    transfer: &[u8],
+    cheque: &[u8],
+    taken: &[u64],
+) -> Verdict
+    ensures { λ r. ⌜ r ≡ judgeOf (now (file .entry)) (now (transfer .entry)) (now (cheque .entry)) (now (taken .entry)) ⌝ }
+{
+    judge::judge(file, transfer, cheque, taken)
+}
+
+#[no_mangle]
+pub extern "C" fn desk_prepare(
+    file: &[u8],
+    transfer: &[u8],
+    cheque: &[u8],
+    out: &mut [u8],
+    notes: &mut [u32],
+) -> Prepared
+    ensures { λ r. ⌜ PreparedAs 0 (now (file .entry)) (now (transfer .entry)) (now (cheque .entry)) (now (out .entry)) (now (notes .entry)) r (now (out .exit)) (now (notes .exit)) ⌝ }
+{
+    prepare::prepare(file, transfer, cheque, out, notes)
+}
+
+#[no_mangle]
+pub extern "C" fn desk_restore(
+    forwarded: &[u8],
+    notes: &[u32],
+    transfer: &[u8],
+    cheque: &[u8],
+    out: &mut [u8],
+) -> Restored
+    ensures { λ r. ⌜ RestoredAs 0 (now (forwarded .entry)) (now (notes .entry)) (now (transfer .entry)) (now (cheque .entry)) (now (out .entry)) r (now (out .exit)) ⌝ }
+{
+    restore::restore(forwarded, notes, transfer, cheque, out)
+}
+
+// Where a shown field stands in the file. Length 0: no such field.
+#[repr(C)]
+pub struct Part {
+    pub start: usize,
+    pub length: usize,
+}
+
+#[no_mangle]
+pub extern "C" fn desk_show(file: &[u8], rec: usize, field: usize) -> Part
+    ensures { λ r. ⌜ r ≡ partOf (shownAt (now (file .entry)) rec field) ⌝ }
+{
+    let s = show::place(file, rec, field);
+    let start = s.start;
+    Part {
+        start,
+        length: s.end - start,
+    }
+}

@@ -1,0 +1,3 @@
+pub mod Annexes
+pub mod Report
+pub mod Told

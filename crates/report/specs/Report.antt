@@ -1,0 +1,23 @@
+-- Document 01: "The program reads standard input, at most 65,024 bytes (84 T records); more gives verdict 6 at record 0
+-- before any rule. It lends no taken numbers and counts the changed characters". "Refused: the last four lines show 0."
+use Prim.Native.Nat.{ℕ}
+use mathlib.Core.Bool.{cond}
+use mathlib.Core.List.{List, []}
+use lib.Dec.{eqb, ltb}
+use lib.ListN.{length}
+use Rattle.judge.specs.Verdict.{refused, judgeOf}
+use Rattle.judge.specs.declared.Verdict.{Verdict}
+use Rattle.forwarding.specs.Forwarded.{notesOf}
+use Rattle.report.specs.Annexes.{annexI, annexII}
+use Rattle.report.specs.declared.Report.{Report}
+
+-- the six lines
+abbrev pub lines : Verdict → ℕ → Report
+lines v changes =
+    record { verdict = v .number; rec = v .rec; payments = v .payments; euros = v .euros; cents = v .cents; changes = changes }
+
+unfoldable pub reportOf : List ℕ → Report
+reportOf input =
+    cond (ltb 65024 (length input)) (lines (refused 6 0) 0)
+    (let v = judgeOf input annexII annexI [] in
+    lines v (cond (eqb (v .number) 0) (length (notesOf 0 input)) 0))

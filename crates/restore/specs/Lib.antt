@@ -1,0 +1,5 @@
+pub mod ByNotes
+pub mod Found
+pub mod Restored
+pub mod Told
+pub mod Origin

@@ -1,0 +1,104 @@
+-- The answer and the output by what the call found: the room, the verdict, what is left to replace, and the notes.
+use Prim.Native.Nat.{ℕ, _+_, _≤_, _<_}
+use mathlib.Core.Path.{_≡_, refl, sym, ap, _∙_}
+use mathlib.Core.Bool.{Bool, true, false, _&&_}
+use mathlib.Core.List.{List, [], _++_}
+use native.Mathlib.Omega.{arith}
+use borrow.Author.Tests.{eq-eqb, ne-eqb}
+use lib.Dec.{eqb}
+use lib.ListN.{length, take, drop, length-append}
+use lib.Seq.{take-length}
+use Rattle.laws.specs.Choice.{on, off, off-eq, on-lt, off-lt}
+use Rattle.charset.specs.Table.{rep, rep-rep}
+use Rattle.judge.specs.Verdict.{verdictOf}
+use Rattle.judge.specs.declared.Verdict.{Verdict}
+use Rattle.forwarding.specs.Text.{textAt}
+use Rattle.forwarding.specs.Forwarded.{notesOf}
+use Rattle.forwarding.specs.Merge.{originalOf, isPair}
+use Rattle.forwarding.specs.Put.{put}
+use Rattle.forwarding.specs.RoundTrip.{both, pair-alone}
+use Rattle.restore.specs.ByNotes.{notesFit, putNotes, inside, accepts-by-notes, merged-by-notes, notes-inside, inside-more, notes-in-front, notes-length}
+use Rattle.restore.specs.Restored.{answer, isYielded, restoreOf, RestoredAs}
+
+-- whether a sound file yields the pair: v is the verdict, n how many characters are left to replace, fit whether
+-- the notes fit
+module _ (page : ℕ) (g ns transfer cheque : List ℕ) where
+  pair-is : isPair page g ns ≡ isPair page g [] && notesFit (rep page) (textAt (length g)) g 0 ns
+  unfolding isPair
+  pair-is = accepts-by-notes (rep page) (textAt (length g)) g (rep-rep page) ns
+
+  module _ {v : Verdict} (e : v ≡ verdictOf page g transfer cheque) where
+    number-is : v .number ≡ verdictOf page g transfer cheque .number
+    number-is = ap (λ (u : Verdict). u .number) e
+
+    pub by-verdict : (v .number ≡ 0 → ⊥) → false ≡ isYielded page g ns transfer cheque
+    unfolding isYielded
+    by-verdict z = sym (ap (λ (t : Bool). t && isPair page g ns) (ne-eqb _ _ (λ q. z (number-is ∙ q))))
+
+    module _ (z : v .number ≡ 0) {n : ℕ} (left : (p : ℕ) → n ≡ length (notesOf p g)) where
+      yielded-is : {t : Bool} → eqb n 0 ≡ t → t && notesFit (rep page) (textAt (length g)) g 0 ns ≡ isYielded page g ns transfer cheque
+      unfolding isYielded
+      yielded-is q =
+          let alone = pair-alone page g ∙ ap (λ (m : ℕ). eqb m 0) (sym (left page)) ∙ q in
+          ap (λ (t : Bool). t && notesFit (rep page) (textAt (length g)) g 0 ns) (sym alone) ∙ sym pair-is
+          ∙ sym (ap (λ (t : Bool). t && isPair page g ns) (eq-eqb _ _ (sym number-is ∙ z)))
+
+      pub by-changes : (n ≡ 0 → ⊥) → false ≡ isYielded page g ns transfer cheque
+      by-changes q = yielded-is (ne-eqb n 0 q)
+
+      pub by-notes : {fit : Bool} → n ≡ 0 → fit ≡ notesFit (rep page) (textAt (length g)) g 0 ns → fit ≡ isYielded page g ns transfer cheque
+      by-notes q f = f ∙ yielded-is (eq-eqb n 0 q)
+
+  -- then the notes are about places of the file, and put back they give the original
+  module _ (y : isYielded page g ns transfer cheque ≡ true) where
+    notes-fit : notesFit (rep page) (textAt (length g)) g 0 ns ≡ true
+    unfolding isYielded
+    notes-fit =
+        let p = both (eqb (verdictOf page g transfer cheque .number) 0) (isPair page g ns) y .1 in
+        both (isPair page g []) (notesFit (rep page) (textAt (length g)) g 0 ns) (sym pair-is ∙ p) .1
+
+    pub notes-in-file : inside (length g) ns ≡ true
+    notes-in-file = notes-inside (rep page) (textAt (length g)) g 0 ns notes-fit
+
+    original-is : putNotes g ns ≡ originalOf g ns
+    unfolding originalOf
+    original-is = sym (merged-by-notes (rep page) (textAt (length g)) g ns notes-fit)
+
+-- the answer
+module _ (page : ℕ) (g ns transfer cheque out : List ℕ) where
+  keeps : (n : ℕ) → (n ≡ 0 → ⊥) → answer n ≡ restoreOf page g ns transfer cheque (length out)
+      → RestoredAs page g ns transfer cheque out (answer n) out
+  keeps n z e = record { answer-is = e; out-is = off-eq _ z refl }
+
+  pub too-short : length out < length g → RestoredAs page g ns transfer cheque out (answer 60) out
+  unfolding restoreOf
+  too-short h = keeps 60 (λ z. omega arith) (on-lt _ h refl)
+
+  module _ (room : length g ≤ length out) {t : Bool} (e : t ≡ isYielded page g ns transfer cheque) where
+    pub refuses : t ≡ false → RestoredAs page g ns transfer cheque out (answer 70) out
+    unfolding restoreOf
+    refuses y = keeps 70 (λ z. omega arith) (off-lt _ room (off _ (sym e ∙ y) refl))
+
+    pub restores : {out' : List ℕ} → t ≡ true → out' ≡ put 0 (putNotes g ns) out → RestoredAs page g ns transfer cheque out (answer 0) out'
+    unfolding restoreOf
+    restores y h =
+        let yes = sym e ∙ y in
+        record {
+          answer-is = off-lt (answer 60) room (on (answer 70) yes refl);
+          out-is = h ∙ ap (λ (s : List ℕ). put 0 s out) (original-is page g ns transfer cheque yes);
+        }
+
+-- what is written: the file is copied, and the notes are put back
+module _ (g ns out : List ℕ) (inside-file : inside (length g) ns ≡ true) {copied : List ℕ}
+    (c : copied ≡ take (length g) g ++ drop (length g) out) where
+  copied-is : copied ≡ g ++ drop (length g) out
+  copied-is = c ∙ ap (λ (s : List ℕ). s ++ drop (length g) out) (take-length g)
+
+  pub copy-holds : inside (length copied) ns ≡ true
+  copy-holds = inside-more (length g) (length copied) ns (omega (arith, ap length copied-is, length-append g (drop (length g) out))) inside-file
+
+  pub written : {out' : List ℕ} → out' ≡ putNotes copied ns → out' ≡ put 0 (putNotes g ns) out
+  written h =
+      let long : length g ≡ 0 + length (putNotes g ns) = omega (arith, notes-length ns g) in
+      h ∙ ap (λ (s : List ℕ). putNotes s ns) copied-is ∙ notes-in-front ns g (drop (length g) out) inside-file
+      ∙ ap (λ (n : ℕ). putNotes g ns ++ drop n out) long

@@ -1,0 +1,96 @@
+/* The desk's calls for hosts written in C. They are proved to meet document 01; libhost.a has them for x86-64
+   (`rt staticlib host` writes target/staticlib/libhost.a).
+
+   Lent memory passes as a pointer and a count of elements. A pointer is never null; where its count is 0, nothing is
+   read or written through it. What is lent for writing (out, notes) overlaps nothing else that is lent. Any bytes, any
+   country lists and any room may be lent: every call ends with an answer or a numbered refusal, and a refused call
+   changes no byte that it was lent. Text is read by the DIN 66003 character table. */
+#ifndef DESK_H
+#define DESK_H
+
+#include <stddef.h>
+#include <stdint.h>
+
+#ifdef __cplusplus
+extern "C" {
+#endif
+
+/* Refusal numbers. */
+enum desk_number {
+    DESK_SOUND = 0,
+    DESK_TOO_LONG = 1,             /* file longer than 7,679,744 bytes */
+    DESK_CUT = 2,                  /* file ends inside a record, or where one is due */
+    DESK_LENGTH_DIGITS = 3,        /* length digits wrong for the letter */
+    DESK_LETTER = 4,               /* letter not allowed here */
+    DESK_AFTER_Z = 5,              /* bytes after Z */
+    DESK_Q3 = 10,                  /* Q3 is not 50400042 */
+    DESK_Q4 = 11,                  /* Q4 is not eight zeros and two digits */
+    DESK_Q5 = 12,                  /* first line of Q5 blank */
+    DESK_Q6 = 13,                  /* Q6 is no date YYMMDD */
+    DESK_Q_DIGITS = 14,            /* a non-digit in Q7, Q8, Q10 or Q11 */
+    DESK_Q9 = 15,                  /* Q9 is not N */
+    DESK_Q12 = 16,                 /* Q12 not all spaces */
+    DESK_ACCOUNT = 20,             /* a non-digit in T3 or T4b, or T4a not EUR */
+    DESK_OTHER_ACCOUNT = 21,       /* T3 or T4b differs from record 1 */
+    DESK_T5_T7 = 22,               /* T5, T6 or T7b not all zeros, or T7a not spaces */
+    DESK_T22 = 23,                 /* T22 is not 00, 20 or 22 */
+    DESK_T21 = 24,                 /* T21 not 00, 01 or 02; for a cheque, not 00 */
+    DESK_CHEQUE_BANK = 25,         /* cheque: T8 or T9b not blank, or T9a not spaces */
+    DESK_T9A = 26,                 /* transfer: T9a wrong */
+    DESK_NO_BANK = 27,             /* transfer: T8 has no BIC shape and T9b is blank */
+    DESK_T10A = 28,                /* T10a not a listed country and a space */
+    DESK_T10B = 29,                /* first line of T10b blank; for a cheque, also line 3 or 4 */
+    DESK_T11 = 30,                 /* T11 not all spaces */
+    DESK_T12 = 31,                 /* transfer: no / and a non-space; cheque: T12 not blank */
+    DESK_T13 = 32,                 /* T13 not EUR */
+    DESK_AMOUNT = 33,              /* a non-digit in T14, last digit not 0, or amount zero */
+    DESK_T16_T27 = 34,             /* a non-digit in T16 to T19 or T25, or T27 not 00 */
+    DESK_T26 = 35,                 /* T26 not all spaces */
+    DESK_Z_FORM = 40,              /* a non-digit in Z3 or Z4, or Z5 not all spaces */
+    DESK_Z4 = 41,                  /* Z4 is not the number of T records */
+    DESK_Z3 = 42,                  /* Z3 is not the sum of all T14a */
+    DESK_TAKEN = 50,               /* the file number is a taken one */
+    DESK_OUTPUT_ROOM = 60,         /* output room shorter than the file */
+    DESK_NOTE_ROOM = 61,           /* more changes than note places */
+    DESK_NO_SUCH_PAIR = 70         /* restore: no sound file yields this pair */
+};
+
+typedef struct { uint64_t number, record, payments, euros, cents; } desk_judgement;
+typedef struct { uint64_t number, record, notes; } desk_prepared;
+typedef struct { uint64_t number, record; } desk_restored;
+typedef struct { uint64_t start, length; } desk_part;
+
+/* Judges a file without taken numbers: record * 100 + number; 0 for a sound file.
+   transfer and cheque are country lists, two bytes a country; a lone last byte is ignored. */
+uint64_t desk_judge(const uint8_t *file, size_t n,
+                    const uint8_t *transfer, size_t nt, const uint8_t *cheque, size_t nc);
+
+/* Judges a file, also by the taken file numbers. Number 0: record 0, with the number of payments, the sum of their
+   whole euros and the sum of their cents, which are not carried. Refused: the first broken rule and its record (record 0
+   for 50), and three zeros. */
+desk_judgement desk_judge_full(const uint8_t *file, size_t n,
+                               const uint8_t *transfer, size_t nt, const uint8_t *cheque, size_t nc,
+                               const uint64_t *taken, size_t taken_n);
+
+/* Prepares a file for forwarding. Soundness first, then 60, then 61, record 0 for both. Number 0: out begins with the
+   forwarded file and notes with a note for each changed character, by rising place: place in the file * 256 + original
+   byte; the rest of both keeps its values. */
+desk_prepared desk_prepare(const uint8_t *file, size_t n,
+                           const uint8_t *transfer, size_t nt, const uint8_t *cheque, size_t nc,
+                           uint8_t *out, size_t out_n, uint32_t *notes, size_t notes_n);
+
+/* Restores the file that was prepared from the forwarded file and all of its notes. 60 first, then 70. Number 0: out
+   begins with the original, and the rest keeps its bytes. */
+desk_restored desk_restore(const uint8_t *forwarded, size_t n, const uint32_t *notes, size_t notes_n,
+                           const uint8_t *transfer, size_t nt, const uint8_t *cheque, size_t nc,
+                           uint8_t *out, size_t out_n);
+
+/* Where a text field stands in a file: 1 Q5 of record 0; 2 T8, 3 T9b, 4 T10b, 5 T12, 6 T15, 7 T20, 8 T23, 9 T24 of a T
+   record. Length 0 (and start 0): the structure is broken, the record doesn't exist, or it has no such field. */
+desk_part desk_show(const uint8_t *file, size_t n, uint64_t record, uint64_t field);
+
+#ifdef __cplusplus
+}
+#endif
+
+#endif

@@ -1,0 +1,172 @@
+/* Times the desk's judge, prepare and restore beside their plain C copies, in one run.
+
+   bench [--emulated]      or the environment variable DESK_EMULATED set
+
+   Each figure is the best of many timing loops; no figure fails anything. */
+
+#define _GNU_SOURCE
+#include <stdbool.h>
+#include <stdio.h>
+#include <stdlib.h>
+#include <string.h>
+#include <sys/utsname.h>
+#include <time.h>
+
+#include "desk.h"
+#include "plain.h"
+#include "sample.h"
+
+enum { DESK, PLAIN, SIDES };
+enum { JUDGE, PREPARE, RESTORE, CALLS };
+static const char *const call_name[CALLS] = {"judge", "prepare", "restore"};
+
+static const size_t sizes[] = {1, 84, 6000, 9999};
+enum { SIZES = sizeof sizes / sizeof sizes[0], ROUNDS = 25, MOST_NOTES = 2 * MOST_PAYMENTS + 2 };
+static const double loop_seconds = 0.004;
+
+static uint8_t file[MOST_FILE], forwarded[MOST_FILE], out[MOST_FILE];
+static uint32_t notes[MOST_NOTES], notes_out[MOST_NOTES];
+static size_t n, notes_n;
+static const uint64_t no_taken[1];
+static volatile uint64_t sink;
+
+#define LISTS (const uint8_t *)annex_ii, ANNEX_II_BYTES, (const uint8_t *)annex_i, ANNEX_I_BYTES
+
+static uint64_t call_once(int call, int side)
+{
+    switch (call) {
+    case JUDGE:
+        return side == DESK ? desk_judge_full(file, n, LISTS, no_taken, 0).number
+                            : plain_judge_full(file, n, LISTS, no_taken, 0).number;
+    case PREPARE:
+        return side == DESK ? desk_prepare(file, n, LISTS, out, n, notes_out, MOST_NOTES).number
+                            : plain_prepare(file, n, LISTS, out, n, notes_out, MOST_NOTES).number;
+    default:
+        return side == DESK ? desk_restore(forwarded, n, notes, notes_n, LISTS, out, n).number
+                            : plain_restore(forwarded, n, notes, notes_n, LISTS, out, n).number;
+    }
+}
+
+/* Mostly transfers, one cheque in ten; in some records one or two characters to be changed. */
+static void make_file(size_t payments)
+{
+    uint64_t state = 20240229;
+    sample_q(file);
+    for (size_t r = 0; r < payments; r++) {
+        uint8_t *t = file + 256 + r * 768;
+        uint64_t chance = next_random(&state);
+        payment_kind kind = payments > 1 && chance % 10 == 0 ? CHEQUE
+                          : chance % 10 < 7 ? BIC_ALONE : chance % 10 == 7 ? BIC_AND_COUNTRY : CODE_AND_BANK;
+        const char *country = kind == CHEQUE ? annex_i + 2 * ((chance >> 8) % 22)
+                                             : annex_ii + 2 * ((chance >> 8) % 156);
+        sample_t(t, kind, country, (chance >> 16) % 100000 + 1, (unsigned)((chance >> 40) % 100));
+        put_number(t + 662, 6, r + 1);                      /* reference in T23 */
+        if ((chance >> 48) % 5 == 0)
+            t[215] = '\'';                                  /* T10b */
+        if ((chance >> 52) % 7 == 0)
+            t[498] = '&';                                   /* T15 */
+    }
+    sample_z(file, payments);
+    n = file_bytes(payments);
+    plain_prepared p = plain_prepare(file, n, LISTS, forwarded, n, notes, MOST_NOTES);
+    notes_n = p.notes;
+    for (int call = 0; call < CALLS; call++)
+        for (int side = 0; side < SIDES; side++)
+            if (p.number != 0 || call_once(call, side) != 0) {
+                fprintf(stderr, "%s refuses the sample of %zu payments\n", call_name[call], payments);
+                exit(2);
+            }
+}
+
+static double seconds(void)
+{
+    struct timespec t;
+    clock_gettime(CLOCK_MONOTONIC, &t);
+    return (double)t.tv_sec + 1e-9 * (double)t.tv_nsec;
+}
+
+static double time_loop(int call, int side, size_t times)
+{
+    uint64_t sum = 0;
+    double start = seconds();
+    for (size_t i = 0; i < times; i++)
+        sum += call_once(call, side);
+    double end = seconds();
+    sink = sum;
+    return end - start;
+}
+
+/* Best seconds per call of each side; the sides take turns, so that both meet the same machine. */
+static void measure(int call, double best[SIDES])
+{
+    size_t times[SIDES];
+    for (int side = 0; side < SIDES; side++) {
+        times[side] = 1;
+        while (time_loop(call, side, times[side]) < loop_seconds)
+            times[side] *= 2;
+        best[side] = 1e9;
+    }
+    for (int round = 0; round < ROUNDS; round++)
+        for (int side = 0; side < SIDES; side++) {
+            double each = time_loop(call, side, times[side]) / (double)times[side];
+            if (each < best[side])
+                best[side] = each;
+        }
+}
+
+static void print_time(double s)
+{
+    if (s < 1e-6) printf(" %8.1f ns", s * 1e9);
+    else if (s < 1e-3) printf(" %8.2f us", s * 1e6);
+    else printf(" %8.3f ms", s * 1e3);
+}
+
+static void print_machine(bool emulated)
+{
+    struct utsname u;
+    char line[256], model[256] = "unknown";
+    FILE *f = fopen("/proc/cpuinfo", "r");
+    while (f && fgets(line, sizeof line, f))
+        if (strncmp(line, "model name", 10) == 0 && strchr(line, ':')) {
+            snprintf(model, sizeof model, "%s", strchr(line, ':') + 2);
+            model[strcspn(model, "\n")] = 0;
+            break;
+        }
+    if (f)
+        fclose(f);
+    printf("machine: %s, %s, %s\n", uname(&u) == 0 ? u.machine : "unknown", model,
+           emulated ? "emulated" : "not emulated");
+}
+
+int main(int argc, char **argv)
+{
+    bool emulated = getenv("DESK_EMULATED") != NULL;
+    if (argc > 1 && strcmp(argv[1], "--emulated") == 0)
+        emulated = true;
+    print_machine(emulated);
+    printf("best of %d loops of at least %.0f ms; ratio is desk / plain\n\n", ROUNDS, loop_seconds * 1e3);
+    printf("%8s %-8s %11s %11s %7s %11s %11s\n", "payments", "call", "desk", "plain", "ratio",
+           "desk MB/s", "plain MB/s");
+
+    static double best[SIZES][CALLS][SIDES];
+    for (size_t i = 0; i < SIZES; i++) {
+        make_file(sizes[i]);
+        for (int call = 0; call < CALLS; call++) {
+            double *b = best[i][call];
+            measure(call, b);
+            printf("%8zu %-8s", sizes[i], call_name[call]);
+            print_time(b[DESK]);
+            print_time(b[PLAIN]);
+            printf(" %7.2f %11.0f %11.0f\n", b[DESK] / b[PLAIN], (double)n / b[DESK] / 1e6, (double)n / b[PLAIN] / 1e6);
+            fflush(stdout);
+        }
+    }
+    printf("\ncost per payment, from 84 to 9,999 payments\n");
+    for (int call = 0; call < CALLS; call++)
+        for (int side = 0; side < SIDES; side++) {
+            double few = best[1][call][side] / (double)sizes[1], many = best[3][call][side] / (double)sizes[3];
+            printf("%-8s %-5s %8.1f ns to %8.1f ns, factor %.2f\n", call_name[call],
+                   side == DESK ? "desk" : "plain", few * 1e9, many * 1e9, many / few);
+        }
+    return 0;
+}

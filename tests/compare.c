@@ -1,0 +1,821 @@
+/* Compares the desk's five calls with their plain C copies, answer by answer and byte by byte.
+
+   compare [--seed N] [--calls N] [--null]
+       The fixed part, some 385,000 calls, always runs; then random files until N calls are made.
+       --null lends every empty stretch as null.
+   compare --replay FILE
+       Runs one kept case again.
+
+   Part of the cases also carries the answer that document 01 asks for, so that both sides together
+   are held against the paper as well. */
+
+#define _GNU_SOURCE
+#include "drafts.h"
+#include "lent.h"
+
+static uint64_t wanted_calls = 1000000;
+
+/* ---- Rules, each broken alone ------------------------------------------------------------- */
+
+/* Who: Q, Z, or payments: b BIC alone, l BIC and country, c code and bank, s cheque.
+   How: '!' any other byte, '9' a non-digit, '#' another digit, '_' a byte where blank is asked,
+   'f' blank where text is asked, 'g' blank but for one byte, '=' one of the values.
+   Rule 0: still sound. */
+typedef struct { int rule; const char *who; int first, last; char how; const char *values; } row;
+
+#define NOT_BIC                                                                              \
+    "SC123456   " "AU123456   " "ABCDDEF    " "ABCDDEFFX  " "ABCDDEFFXX " "ABCDDEFF  X"      \
+    "ABCDDEFF X " "abcddeff   " "ABCDDEFFxxx" "ABC1DEFF   " "ABCDD1FF   " "1BCDDEFF   "      \
+    "ABCDDEF/   " "ABCDDE.F   " "           " " ABCDDEFF  " "ABCDDEFF///" "ABCDDEFFX=X"      \
+    "ABC^DEFF   " "ABC@DEFF   " "ABCD`EFF   " "ABCDDE:F   " "ABCDDEF\xC4   " "ABCDDEFFXXx"   \
+    "A:CDDEFF   " "AB/DDEFF   " "ABCDDEF@XXX" "ABCDDEFF9:9" "ABCDDEFF/00" "A&CDDEFF   "      \
+    "ABCDD{FF   " "ABCDDEFF==X" "ABCDDEFF00\x80" "ABCDDEzF   " "ABCDDEFF__9" "=ABCDDEFF=="
+#define IS_BIC                                                                               \
+    "ABCDDEFF   " "ABCDDEFFXXX" "ABCDDEFF123" "ABCDDE99   " "[BCDDEFF   " "ABC$DEFF===" "AZAZAZ09Z0A" \
+    "~\\]$[DEF'\"\x80" "ABCDDEF~   " "ABCDDEFF[\\]" "SCSCSCSC   " "ABCDDEFF\xC4\xC4\xC4"
+
+static const row rows[] = {
+    {10, "Q", 5, 12, '!', 0},
+    {11, "Q", 13, 20, '!', 0}, {11, "Q", 21, 22, '9', 0}, {0, "Q", 21, 22, '#', 0},
+    {12, "Q", 23, 57, 'f', 0}, {0, "Q", 23, 57, 'g', 0}, {0, "Q", 58, 162, 'f', 0},
+    {13, "Q", 163, 168, '9', 0},
+    {13, "Q", 163, 168, '=', "010229" "030229" "990229" "000230" "001301" "000001" "000100" "000132"
+        "000431" "000631" "000931" "001131" "991232" "000015" "000332" "001332" "002000"},
+    {0, "Q", 163, 168, '=', "000229" "040229" "960229" "001231" "000131" "000430" "990228" "000331"
+        "000531" "000630" "000731" "000831" "000930" "001031" "001130" "000901"},
+    {14, "Q", 169, 170, '9', 0}, {14, "Q", 171, 176, '9', 0}, {14, "Q", 178, 179, '9', 0},
+    {14, "Q", 180, 187, '9', 0}, {0, "Q", 169, 176, '#', 0}, {0, "Q", 178, 187, '#', 0},
+    {15, "Q", 177, 177, '!', 0},
+    {16, "Q", 188, 255, '!', 0},
+    {20, "blcs", 5, 12, '9', 0}, {20, "blcs", 13, 15, '!', 0}, {20, "blcs", 16, 25, '9', 0},
+    {21, "blcs", 5, 12, '#', 0}, {21, "blcs", 16, 25, '#', 0},
+    {22, "blcs", 26, 31, '!', 0}, {22, "blcs", 32, 39, '!', 0}, {22, "blcs", 40, 42, '!', 0},
+    {22, "blcs", 43, 52, '!', 0},
+    {23, "blcs", 650, 651, '=', "01" "10" "02" "21" "2 " " 0" "12" "32" "23" "99" "  " "/0" ":0" "0/" "\xB0" "0"},
+    {0, "s", 650, 651, '=', "20" "22"},
+    {24, "blc", 648, 649, '=', "03" "10" "  " "0 " "20" "22" "11" "1 " "/0" ":1" "0/" "0:"},
+    {24, "s", 648, 649, '=', "01" "02" "03" "10" "  " "20" "22" "0 " "0/"},
+    {0, "blc", 648, 649, '=', "00" "01" "02"},
+    {25, "s", 53, 63, '_', 0}, {25, "s", 67, 206, '_', 0}, {25, "s", 64, 66, '!', 0},
+    {0, "s", 53, 63, 'f', 0}, {0, "s", 67, 206, 'f', 0},
+    {26, "b", 53, 63, '=', NOT_BIC}, {27, "l", 53, 63, '=', NOT_BIC}, {0, "bl", 53, 63, '=', IS_BIC},
+    {26, "bl", 64, 66, '=', "D1 " "1D " "D  " " D " "DE0" "DEX" "de " "De " "=  " "===" "[D " "D[ " "@A " "A@ "
+        " DE" "  X" "DE=" "  =" "  \x80" "\xC4" "D "},
+    {0, "blc", 64, 66, '=', "US " "GB " "CF " "AF "}, {0, "bl", 64, 66, '=', "ZZ " "AA " "   " "DE "},
+    {26, "c", 64, 66, '=', "   " "DE " "ZZ " "VE " "USA" "US=" "U  " " US" "us " "SU " "FE " "\xD5\xD3 "},
+    {27, "c", 67, 206, 'f', 0}, {0, "c", 67, 206, 'g', 0}, {0, "bl", 67, 206, 'f', 0}, {0, "bl", 67, 206, 'g', 0},
+    {28, "blc", 207, 209, '=', "   " "DE " "ZZ " "VE " "USA" "US=" "U  " " US" "us " "FE " "GB0" "US\xA0"},
+    {28, "s", 207, 209, '=', "   " "DE " "ZZ " "AF " "CF " "USA" "US=" "us " "RB " "VE0"},
+    {0, "blc", 207, 209, '=', "US " "GB " "CF " "AF "}, {0, "s", 207, 209, '=', "US " "VE " "AR "},
+    {29, "blcs", 210, 244, 'f', 0}, {29, "s", 280, 314, 'f', 0}, {29, "s", 315, 349, 'f', 0},
+    {0, "blcs", 210, 244, 'g', 0}, {0, "s", 280, 314, 'g', 0}, {0, "s", 315, 349, 'g', 0},
+    {0, "blcs", 245, 279, 'f', 0}, {0, "blc", 245, 349, 'f', 0},
+    {30, "blcs", 350, 419, '!', 0},
+    {31, "blc", 420, 420, '!', 0}, {31, "blc", 421, 421, 'f', 0}, {0, "blc", 421, 421, '_', 0},
+    {31, "s", 420, 454, '_', 0}, {0, "s", 420, 454, 'f', 0}, {0, "blc", 422, 454, 'f', 0},
+    {32, "blcs", 455, 457, '!', 0},
+    {33, "blcs", 458, 471, '9', 0}, {33, "blcs", 472, 474, '9', 0}, {33, "blcs", 474, 474, '#', 0},
+    {33, "blcs", 458, 474, '=', "00000000000000000" "00000000000000005" "00000000000000505" "00000000000001001"},
+    {34, "blcs", 615, 622, '9', 0}, {34, "blcs", 714, 714, '9', 0}, {34, "blcs", 766, 767, '!', 0},
+    {0, "blcs", 615, 622, '#', 0}, {0, "blcs", 714, 714, '#', 0}, {0, "blcs", 472, 473, '=', "01" "10" "99"},
+    {35, "blcs", 715, 765, '!', 0},
+    {0, "blcs", 475, 614, 'f', 0}, {0, "blcs", 623, 647, 'f', 0}, {0, "blcs", 652, 678, 'f', 0},
+    {0, "blcs", 679, 713, 'f', 0}, {0, "blcs", 475, 614, 'g', 0},
+    {40, "Z", 5, 19, '9', 0}, {40, "Z", 20, 34, '9', 0}, {40, "Z", 35, 255, '!', 0},
+    {41, "Z", 20, 34, '#', 0},
+    {42, "Z", 5, 19, '#', 0},
+};
+enum { ROWS = sizeof rows / sizeof rows[0] };
+
+static const uint8_t other_bytes[] = {0x00, 0x1F, ' ', '!', '/', '0', '1', ':', '=', '@', 'A', '[', 0x80, 0xA0, 0xFF};
+static const uint8_t non_digits[] = {'/', ':', ' ', 'A', 'O', 0x00, 0xB0, 0xFF, '.', '-'};
+static const uint8_t fillers[] = {' ', '=', '\'', 0x00, '@', '^', '_', '`', '{', '}', 0x7F, 0x80, 0xC4, 0xFF};
+
+static size_t ways(const row *w)
+{
+    size_t width = (size_t)(w->last - w->first + 1);
+    switch (w->how) {
+    case '!': return width * sizeof other_bytes;
+    case '9': return width * sizeof non_digits;
+    case '#': return width * 9;
+    case '_': return width * (sizeof not_blank - 1) / (width > 100 ? 3 : 1);
+    case 'f': return sizeof fillers + 2;
+    case 'g': return width * 3;
+    default:  return strlen(w->values) / width;
+    }
+}
+
+static void spoil(const row *w, uint8_t *r, size_t way)
+{
+    size_t width = (size_t)(w->last - w->first + 1), i = way % width, k = way / width;
+    uint8_t *f = r + w->first;
+    switch (w->how) {
+    case '!': f[i] = f[i] == other_bytes[k] ? f[i] ^ 0x80 : other_bytes[k]; break;
+    case '9': f[i] = non_digits[k]; break;
+    case '#': f[i] = (uint8_t)('0' + ((unsigned)(f[i] - '0') + 1 + k) % 10); break;
+    case '_': f[i] = width > 100 ? filled_byte() : (uint8_t)not_blank[k]; break;
+    case 'f':
+        for (i = 0; i < width; i++)
+            f[i] = way < sizeof fillers ? fillers[way] : blank_byte();
+        break;
+    case 'g':
+        for (size_t j = 0; j < width; j++)
+            f[j] = k == 0 ? ' ' : blank_byte();
+        f[i] = filled_byte();
+        break;
+    default: memcpy(f, w->values + way * width, width); break;
+    }
+}
+
+static const char kind_letters[] = "blcs";
+static bool is_kind(char who) { return strchr(kind_letters, who) != NULL; }
+static payment_kind kind_of(char who) { return (payment_kind)(strchr(kind_letters, who) - kind_letters); }
+
+static void lend_taken(const uint64_t *list, size_t n) { lend(TAKEN, list, 8 * n); }
+
+/* One of the other calls on a file with that verdict. */
+static void other_call(uint64_t rule, uint64_t record, size_t which)
+{
+    uint64_t number = file_number();
+    switch (which % 4) {
+    case 0:
+        lend_taken(&number, 1);
+        run_expecting(JUDGE_FULL, rule ? rule : 50);
+        break;
+    case 1:
+        now.room = rule && one_in(2) ? below(draft_n) : draft_n;
+        now.places = rule ? below(8) : 140 + payments * 553;
+        run_expecting(PREPARE, rule);
+        break;
+    case 2:
+        now.room = draft_n;
+        lend(NOTES_IN, NULL, 0);
+        if (rule)
+            run_expecting(RESTORE, 70);
+        else
+            run(RESTORE);
+        break;
+    default:
+        now.record = one_in(3) ? below(payments + 3) : record;
+        now.field = below(11);
+        run(SHOW);
+    }
+}
+
+static void each_rule_alone(void)
+{
+    for (const row *w = rows; w < rows + ROWS; w++)
+        for (const char *who = w->who; *who; who++)
+            for (size_t at = 1; at <= 3; at++) {
+                static const payment_kind sets[4][3] = {
+                    {BIC_ALONE, CODE_AND_BANK, CHEQUE}, {CHEQUE, BIC_AND_COUNTRY, BIC_ALONE},
+                    {CODE_AND_BANK, CHEQUE, BIC_AND_COUNTRY}, {CODE_AND_BANK, CODE_AND_BANK, CHEQUE}};
+                payment_kind kinds[3];
+                memcpy(kinds, sets[below(4)], sizeof kinds);
+                size_t record = *who == 'Q' ? 0 : at;
+                if (is_kind(*who))
+                    kinds[at - 1] = kind_of(*who);
+                random_file(*who == 'Q' || *who == 'Z' ? at : 3, kinds, 0);
+                if (*who == 'Z')
+                    record = payments + 1;
+                uint8_t *r = record_of(record), kept[768];
+                if (*who == 'l' || *who == 'c')
+                    memcpy(r + 64, annex_ii + 2 * below(156), 2);
+                if (strchr("bl", *who))
+                    memset(r + 67, ' ', 140);
+                size_t told = w->rule == 21 && at == 1 ? 2 : w->rule == 0 ? 0 : record;
+                memcpy(kept, r, 768);
+                for (size_t way = 0; way < ways(w); way++) {
+                    spoil(w, r, way);
+                    lend_draft();
+                    run_expecting(JUDGE, told * 100 + (uint64_t)w->rule);
+                    other_call((uint64_t)w->rule, told, way + at);
+                    memcpy(r, kept, 768);
+                }
+            }
+}
+
+/* Two rules broken at once, in one record or in two. */
+static void each_pair_of_rules(void)
+{
+    for (const row *v = rows; v < rows + ROWS; v++)
+        for (const row *w = rows; w <= v; w++)
+            for (size_t again = 0; again < 6 && v->rule && w->rule; again++) {
+                char who_v = v->who[below(strlen(v->who))], who_w = w->who[below(strlen(w->who))];
+                payment_kind kinds[3] = {BIC_ALONE, BIC_ALONE, BIC_ALONE};
+                size_t at_w = 2, at_v = again < 3 && strchr(v->who, who_w) ? 2 : again % 2 ? 1 : 3;
+                if (is_kind(who_w)) kinds[1] = kind_of(who_w);
+                if (at_v != 2 && is_kind(who_v)) kinds[at_v - 1] = kind_of(who_v);
+                random_file(3, kinds, 0);
+                at_w = who_w == 'Q' ? 0 : who_w == 'Z' ? 4 : at_w;
+                at_v = who_v == 'Q' ? 0 : who_v == 'Z' ? 4 : at_v;
+                spoil(w, record_of(at_w), below(ways(w)));
+                spoil(v, record_of(at_v), below(ways(v)));
+                lend_draft();
+                run(JUDGE);
+                /* these ways break their rule whatever else is spoiled: the earlier one is told */
+                uint64_t code_w = at_w * 100 + (uint64_t)w->rule, code_v = at_v * 100 + (uint64_t)v->rule;
+                if (v != w && strchr("!9_f", v->how) && strchr("!9_f", w->how))
+                    run_expecting(JUDGE, code_w < code_v ? code_w : code_v);
+            }
+}
+
+/* A random row on a random record of its kind; unfit records are spoiled as well. */
+static void spoil_at_random(void)
+{
+    const row *w = &rows[below(ROWS)];
+    size_t record = *w->who == 'Q' ? 0 : *w->who == 'Z' ? payments + 1 : 1 + below(payments);
+    spoil(w, record_of(record), below(ways(w)));
+}
+
+/* Every place of Q, T and Z with the bytes at the edges of the classes. */
+static void each_byte(void)
+{
+    static const uint8_t edges[] = "\0\x1F !$%&'*+,-./0129:=@AENQRSTUZ[\\]^`aqtz{~\x7F\x80\xA0\xB0\xC4\xFF";
+    static const payment_kind kinds[4] = {BIC_AND_COUNTRY, CHEQUE, CODE_AND_BANK, BIC_ALONE};
+    random_file(4, kinds, 0);
+    lend_draft();
+    uint8_t *f = input[FILE_IN].write - draft_n;
+    for (size_t at = 0; at < draft_n; at++) {
+        uint8_t kept = f[at];
+        for (size_t k = 0; k < sizeof edges - 1; k++) {
+            f[at] = edges[k];
+            run(JUDGE);
+        }
+        f[at] = kept;
+    }
+}
+
+/* ---- Prepare and restore ------------------------------------------------------------------ */
+
+static uint8_t forwarded[MOST_FILE + SPARE];
+static uint32_t notes[MOST_NOTES + 8], changed_notes[MOST_NOTES + 8];
+static size_t notes_n, changed_n;
+
+/* Prepares the draft; if sound, the pair gives the file back and the forwarded file gives itself. */
+static bool prepare_pair(void)
+{
+    now.room = draft_n + below(3) * below(100);
+    now.places = 140 + payments * 553 + below(40);
+    if (run(PREPARE)[0] != 0)
+        return false;
+    size_t room = now.room, places = now.places;
+    memcpy(forwarded, out_of(DESK), draft_n);
+    memcpy(notes, notes_of(DESK), 4 * (notes_n = answer[DESK][2]));
+    for (size_t i = 0; i + 1 < notes_n; i++)
+        if (notes[i] / 256 >= notes[i + 1] / 256)
+            differ("notes do not rise");
+
+    lend(FILE_IN, forwarded, draft_n);
+    lend(NOTES_IN, notes, 4 * notes_n);
+    run_expecting(RESTORE, 0);
+    if (memcmp(out_of(DESK), draft, draft_n) != 0)
+        differ("restore does not give the file back");
+    now.places = below(2) * 5;
+    if (run_expecting(PREPARE, 0)[2] != 0 || memcmp(out_of(DESK), forwarded, draft_n) != 0)
+        differ("the forwarded file is not forwarded as it is");
+    now.room = room, now.places = places;
+    lend_draft();
+    return true;
+}
+
+static void rooms(size_t room_way, size_t places_way)
+{
+    const size_t room[6] = {0, draft_n - 1, draft_n, draft_n + 1, draft_n + 300, below(draft_n)};
+    const size_t places[6] = {0, notes_n - 1, notes_n, notes_n + 1, notes_n + 50, below(notes_n)};
+    if (notes_n == 0 && places_way == 1)
+        return;
+    now.room = room[room_way];
+    now.places = places[places_way];
+    run_expecting(PREPARE, now.room < draft_n ? 60 : now.places < notes_n ? 61 : 0);
+}
+
+static void insert_note(size_t at, uint8_t byte)
+{
+    size_t i = changed_n++;
+    for (; i > 0 && changed_notes[i - 1] / 256 > at; i--)
+        changed_notes[i] = changed_notes[i - 1];
+    changed_notes[i] = (uint32_t)(at * 256 + byte);
+}
+
+static bool noted(size_t at)
+{
+    for (size_t i = 0; i < changed_n; i++)
+        if (changed_notes[i] / 256 == at)
+            return true;
+    return false;
+}
+
+/* A place inside or outside the text fields, half of them at a field's edge. */
+static size_t random_place(bool inside)
+{
+    for (;;) {
+        size_t at = below(draft_n);
+        if (one_in(2)) {
+            size_t field = 1 + below(9), base = field == 1 ? 0 : 256 + 768 * below(payments);
+            int edge = one_in(2) ? text[field].first - !inside : text[field].last + !inside;
+            at = base + (size_t)edge;
+        }
+        if (in_text(at, draft_n) == inside)
+            return at;
+    }
+}
+
+enum { AS_IT_IS, NO_NOTES, ONE_LESS, SAME_REPLACEMENT, ONE_MORE, UNREPLACED, OTHER_REPLACEMENT, TWICE, FALLING,
+       OUTSIDE_TEXT, OUTSIDE_FILE, ZEROS_BEHIND, ZERO_BEFORE, NOT_CLEAN, NOT_SOUND, NO_ROOM, RESTORE_WAYS };
+
+/* Restore of the prepared pair, changed in one way; tells nothing when the way is not open. */
+static void restore_changed(int way)
+{
+    uint64_t expected = 70;
+    size_t at, i = below(notes_n), n = draft_n;
+    static uint8_t f[MOST_FILE + SPARE];
+    memcpy(f, forwarded, n);
+    memcpy(changed_notes, notes, 4 * (changed_n = notes_n));
+    now.room = n + below(2) * below(50);
+    switch (way) {
+    case AS_IT_IS:
+        expected = 0;
+        break;
+    case NO_NOTES:
+        changed_n = 0;
+        expected = 0;
+        break;
+    case ONE_LESS:
+        if (notes_n == 0) return;
+        if (one_in(2)) i = notes_n - 1;
+        memmove(changed_notes + i, changed_notes + i + 1, 4 * (--changed_n - i));
+        expected = 0;
+        break;
+    case SAME_REPLACEMENT:
+        if (notes_n == 0) return;
+        at = changed_notes[i] / 256;
+        changed_notes[i] = (uint32_t)(at * 256 + changed_into(f[at]));
+        expected = 0;
+        break;
+    case ONE_MORE:
+        at = random_place(true);
+        if (noted(at) || changed_into(f[at]) == f[at]) return;
+        insert_note(at, changed_into(f[at]));
+        expected = 0;
+        break;
+    case UNREPLACED:
+        at = random_place(true);
+        if (noted(at)) return;
+        insert_note(at, f[at]);
+        break;
+    case OTHER_REPLACEMENT:
+        if (notes_n == 0) return;
+        at = changed_notes[i] / 256;
+        changed_notes[i] = (uint32_t)(at * 256 + (f[at] == ' ' ? (uint8_t)"$&[\\]~Aa0/"[below(10)] : blank_byte()));
+        break;
+    case TWICE:
+        if (notes_n == 0) return;
+        at = changed_notes[i] / 256;
+        insert_note(at, one_in(2) ? (uint8_t)changed_notes[i] : changed_into(f[at]));
+        break;
+    case FALLING:
+        if (notes_n < 2) return;
+        i = below(notes_n - 1);
+        at = one_in(2) ? i + 1 : i + 1 + below(notes_n - 1 - i);
+        changed_notes[i] = notes[at];
+        changed_notes[at] = notes[i];
+        break;
+    case OUTSIDE_TEXT:
+        at = random_place(false);
+        if (changed_into(f[at]) == f[at]) return;
+        insert_note(at, changed_into(f[at]));
+        break;
+    case OUTSIDE_FILE:
+        at = one_in(2) ? n + below(1000) : one_in(2) ? 0xFFFFFF : n + 768 * below(10) + (size_t)text[2].first;
+        changed_notes[changed_n++] = (uint32_t)(at * 256 + (one_in(2) ? blank_byte() : 255));
+        break;
+    case ZEROS_BEHIND:
+        for (size_t more = 1 + below(3); more > 0; more--)
+            changed_notes[changed_n++] = 0;
+        break;
+    case ZERO_BEFORE:
+        insert_note(0, 0);
+        break;
+    case NOT_CLEAN:
+        at = random_place(true);
+        f[at] = one_in(2) ? changed_into(' ') : (uint8_t)"&$[\\]~"[below(6)];
+        break;
+    case NOT_SOUND:
+        at = random_place(false);
+        f[at] = one_in(2) ? f[at] ^ (uint8_t)(1u << below(8)) : (uint8_t)any();
+        lend(FILE_IN, f, n);
+        lend(NOTES_IN, changed_notes, 4 * changed_n);
+        run(RESTORE);
+        lend_draft();
+        return;
+    case NO_ROOM:
+        now.room = one_in(2) ? n - 1 : one_in(2) ? 0 : below(n);
+        if (one_in(2)) changed_notes[changed_n++] = (uint32_t)any();
+        if (one_in(2)) f[random_place(false)] ^= 1;
+        expected = 60;
+        break;
+    }
+    lend(FILE_IN, f, n);
+    lend(NOTES_IN, changed_notes, 4 * changed_n);
+    run_expecting(RESTORE, expected);
+    if (expected == 0) {
+        for (size_t k = 0; k < changed_n; k++)
+            f[changed_notes[k] / 256] = (uint8_t)changed_notes[k];
+        if (memcmp(out_of(DESK), f, n) != 0)
+            differ("restore does not give the file of these notes");
+    }
+    lend_draft();
+}
+
+static void each_character(void)
+{
+    static const payment_kind kinds[3] = {CODE_AND_BANK, CHEQUE, BIC_ALONE};
+    for (int field = 1; field <= 9; field++)
+        for (int byte = 0; byte < 256; byte++) {
+            random_file(3, kinds, 0);
+            uint8_t *r = record_of(field == 1 ? 0 : 1 + below(3));
+            int width = text[field].last - text[field].first + 1;
+            r[text[field].first + 2 + (int)below((size_t)width - 2)] = (uint8_t)byte;
+            if (one_in(3)) r[text[field].last] = (uint8_t)byte;
+            if (one_in(6)) r[text[field].first] = (uint8_t)byte;
+            lend_draft();
+            prepare_pair();
+        }
+}
+
+static void each_room_and_pair(size_t files)
+{
+    for (size_t i = 0; i < files; i++) {
+        random_file(1 + below(3), NULL, (int)below(3));
+        if (i == 0)
+            random_file(2, NULL, 0);
+        lend_draft();
+        if (!prepare_pair())
+            continue;
+        for (size_t room = 0; room < 6; room++)
+            for (size_t places = 0; places < 6; places++)
+                rooms(room, places);
+        for (int way = 0; way < RESTORE_WAYS; way++)
+            for (int again = 0; again < 4; again++)
+                restore_changed(way);
+    }
+}
+
+/* ---- Taken numbers and shown fields ------------------------------------------------------- */
+
+/* Neighbours of the number, and numbers that a narrower reading takes for it. */
+static uint64_t untaken(size_t way)
+{
+    uint64_t number = file_number();
+    const uint64_t near[8] = {number + 1, number - 1, UINT64_MAX, number + ((uint64_t)1 << 32),
+        number + ((uint64_t)1 << 63), number % 1000000000, number + 10000000000u, number / 100};
+    return near[way % 8] == number ? number + 2 : near[way % 8];
+}
+
+static void taken_lists(void)
+{
+    uint64_t list[40];
+    size_t n = below(40);
+    for (size_t i = 0; i < n; i++)
+        list[i] = one_in(2) ? untaken(below(8)) : any() % 10000000000u;
+    for (size_t times = below(4); times > 0 && n > 0; times--)
+        list[one_in(3) ? 0 : one_in(3) ? n - 1 : below(n)] = file_number();
+    lend_taken(list, n);
+    run(JUDGE_FULL);
+    lend_taken(NULL, 0);
+    run(JUDGE);
+    uint64_t code = answer[DESK][0];
+    run(JUDGE_FULL);
+    if (code != answer[DESK][1] * 100 + answer[DESK][0])
+        differ("judge is not record * 100 + number of the full judgement");
+}
+
+/* The number at each place of short lists, once and twice, and lists without it. */
+static void each_taken_list(void)
+{
+    uint64_t list[6];
+    for (size_t n = 0; n <= 6; n++)
+        for (size_t first = 0; first <= n; first++)
+            for (size_t second = first; second <= n; second++)
+                for (size_t way = 0; way < 8; way++) {
+                    for (size_t i = 0; i < n; i++)
+                        list[i] = i == first || i == second ? file_number() : untaken(i + way);
+                    lend_taken(list, n);
+                    run_expecting(JUDGE_FULL, first < n ? 50 : 0);
+                }
+}
+
+/* All of them only on a file that the walk passes: then the part is known. */
+static void show_fields(bool all)
+{
+    const uint64_t records[] = {0, 1, 2, payments, payments + 1, payments + 2, payments / 2 + 1, 10000, UINT64_MAX,
+        ((uint64_t)1 << 56) + 1, ((uint64_t)1 << 57) + 1, ((uint64_t)1 << 32) + 1, (uint64_t)1 << 63};
+    const uint64_t fields[] = {0, 1, 2, 3, 4, 5, 6, 7, 8, 9, 10, 11, 255, 258, UINT64_MAX,
+        ((uint64_t)1 << 32) + 2, ((uint64_t)1 << 56) + 1, (uint64_t)1 << 60};
+    enum { R = sizeof records / 8, F = sizeof fields / 8 };
+    for (size_t i = 0; i < (all ? R * F : 2); i++) {
+        uint64_t record = now.record = records[all ? i % R : below(R)];
+        uint64_t field = now.field = fields[all ? i / R : below(F)];
+        run(SHOW);
+        if (!all)
+            continue;
+        bool there = record == 0 ? field == 1 : record <= payments && field >= 2 && field <= 9;
+        uint64_t start = !there ? 0 : (uint64_t)text[field].first + (record ? 256 + (record - 1) * 768 : 0);
+        uint64_t length = !there ? 0 : (uint64_t)(text[field].last - text[field].first + 1);
+        if (answer[DESK][0] != start || answer[DESK][1] != length)
+            differ("another part expected after the paper");
+    }
+}
+
+/* ---- Structure ---------------------------------------------------------------------------- */
+
+static void structure_fault(void)
+{
+    static const char heads[] = "0256Q0768T0256Z0768Q0256T0768Z0255Q0769T0256X 768T0256z0768t2560Q\xB0" "768T";
+    size_t edge = one_in(6) ? 0 : 256 + 768 * below(payments + 2), record = below(payments + 2), more;
+    uint8_t *r = record_of(record);
+    switch (below(9)) {
+    case 0:                                             /* cut near an edge */
+        draft_n = edge + below(7);
+        draft_n = draft_n < 3 ? 0 : draft_n - 3;
+        if (draft_n >= file_bytes(payments)) draft_n = file_bytes(payments) - 1;
+        break;
+    case 1:                                             /* bytes after Z */
+        more = one_in(3) ? 768 : one_in(3) ? 256 : 1 + below(5);
+        memmove(draft + draft_n, one_in(2) ? draft + 256 : draft + draft_n - 256, more);
+        draft_n += more;
+        break;
+    case 2: memcpy(r, heads + 5 * below(sizeof heads / 5), 5); break;
+    case 3: r[4] = (uint8_t)"QTZqtz 0"[below(8)]; break;
+    case 4: memcpy(r, heads + 5 * below(sizeof heads / 5), 4); break;
+    case 5: memcpy(draft + 256, draft, 256); break;     /* Q twice */
+    case 6: memmove(draft + 256, draft + draft_n - 256, 256); draft_n = 512; break;     /* Z after Q */
+    case 7:                                             /* a record missing */
+        more = record == 0 || record == payments + 1 ? 256 : 768;
+        memmove(r, r + more, draft_n - (size_t)(r - draft) - more);
+        draft_n -= more;
+        break;
+    default: draft_n = below(draft_n + 1);
+    }
+    if (one_in(3)) draft[below(draft_n)] = (uint8_t)any();
+    if (one_in(8)) draft_n = below(draft_n + 1);
+}
+
+/* Cuts at every length, with and without a content fault; what a longer file adds. */
+static void each_length(void)
+{
+    random_file(2, NULL, 0);
+    size_t whole = draft_n;
+    for (int faulty = 0; faulty < 2; faulty++) {
+        if (faulty) draft[5] = 'X', draft[256 + 13] = 'X';
+        for (draft_n = 0; draft_n < whole; draft_n++) {
+            size_t record = draft_n < 256 ? 0 : 1 + (draft_n - 256) / 768;
+            lend_draft();
+            run_expecting(JUDGE, 100 * record + 2);
+            other_call(2, record, draft_n);
+        }
+    }
+    for (size_t more = 1; more <= 800; more++) {
+        draft_n = whole + more;
+        memcpy(draft + whole, one_in(2) ? draft + 256 : draft + whole - 256, more > 256 ? 256 : more);
+        lend_draft();
+        run_expecting(JUDGE, 305);
+        show_fields(false);
+    }
+}
+
+/* ---- Fixed cases of the paper ------------------------------------------------------------- */
+
+/* Two payments of 120,50 and 79,75; the second payee is M&M STUDIO. */
+static void worked_example(void)
+{
+    payments = 2;
+    draft_n = file_bytes(2);
+    sample_q(draft);
+    sample_t(record_of(1), BIC_ALONE, "US", 120, 50);
+    sample_t(record_of(2), BIC_ALONE, "US", 79, 75);
+    memcpy(record_of(2) + 210, "M&M STUDIO   ", 13);
+    sample_z(draft, 2);
+    lend_draft();
+}
+
+static void edge(size_t record, int at, const char *bytes, uint64_t code)
+{
+    worked_example();
+    put(record_of(record) + at, bytes);
+    lend_draft();
+    run_expecting(JUDGE, code);
+}
+
+static void fixed_cases(void)
+{
+    use_annexes();
+    worked_example();
+    const uint64_t *a = run_expecting(JUDGE_FULL, 0);
+    if (a[2] != 2 || a[3] != 199 || a[4] != 125)
+        differ("2 payments, 199 euros, 125 cents expected");
+    now.room = draft_n, now.places = 1;
+    if (run_expecting(PREPARE, 0)[2] != 1 || notes_of(DESK)[0] != 316198 || out_of(DESK)[1235] != '+')
+        differ("the one note 316198 expected");
+    lend(FILE_IN, NULL, 0);
+    run_expecting(JUDGE, 2);
+    lend(FILE_IN, "0256", 4);
+    run_expecting(JUDGE, 2);
+    lend(FILE_IN, "XXXXX", 5);
+    run_expecting(JUDGE, 4);
+    lend(FILE_IN, "9999Q", 5);
+    run_expecting(JUDGE, 3);
+    lend(FILE_IN, "0256Q", 5);
+    run_expecting(JUDGE, 2);
+    edge(0, 0, "0255Q", 3);
+    edge(1, 0, "0769T", 103);
+    edge(2, 0, "0768t", 204);
+    edge(3, 0, "0257Z", 303);
+    edge(1, 0, "0256Z", 104);
+    edge(1, 0, "0256Q", 104);
+    edge(2, 0, "0256Q", 204);
+    edge(3, 0, "0256Q", 304);
+    edge(2, 0, "0256Z", 205);
+    edge(2, 0, "0768Z", 203);
+    edge(3, 0, "0256T", 303);
+    edge(3, 0, "0768T", 302);
+    edge(0, 163, "000229", 0);
+    edge(0, 163, "010229", 13);
+    edge(1, 53, "SC123456   ", 126);
+    edge(2, 472, "500", 0);
+    edge(2, 472, "505", 233);
+    edge(2, 210, "===================================", 229);
+    edge(3, 5, "000000000000200", 342);
+    edge(3, 5, "000000000000200000000000000003", 341);
+    edge(3, 255, "X", 340);
+    show_fields(true);                                  /* content is not asked for */
+
+    /* sums of 999,999,999,999,999 and one more, which Z3 cannot hold */
+    for (int more = 0; more < 2; more++) {
+        payments = 11;
+        draft_n = file_bytes(11);
+        sample_q(draft);
+        for (size_t r = 1; r <= 11; r++)
+            sample_t(record_of(r), CHEQUE, "US", r < 11 ? 99999999999999u : 9u + (unsigned)more, 99);
+        sample_z(draft, 11);
+        lend_draft();
+        run_expecting(JUDGE, more ? 1242 : 0);
+        run(JUDGE_FULL);
+    }
+    /* countries of any content */
+    use_lists("  ABCD\xFF\x00X", 9, "", 0);
+    edge(1, 207, "BC ", 128);
+    edge(1, 207, "X  ", 128);
+    edge(1, 207, "XX ", 128);
+    edge(1, 207, "   ", 228);
+    edge(1, 207, "AB ", 228);
+    worked_example();
+    memcpy(record_of(1) + 207, "\xFF\x00 ", 3);
+    memcpy(record_of(2) + 207, "   ", 3);
+    lend_draft();
+    run_expecting(JUDGE, 0);
+    use_lists("US  a1", 6, "US", 2);
+    edge(2, 64, "a1 ", 226);                            /* listed, but with a BIC capitals are asked */
+    edge(2, 64, "ZZ ", 0);
+    for (int way = 0; way < 3; way++) {
+        worked_example();
+        put(record_of(2) + 53, "SC123456   ");          /* without one, the list decides */
+        put(record_of(2) + 64, way == 0 ? "a1 " : way == 1 ? "   " : "ZZ ");
+        put(record_of(2) + 206, "/");
+        lend_draft();
+        run_expecting(JUDGE, way == 2 ? 226 : 0);
+    }
+    use_annexes();
+    worked_example();
+    each_taken_list();
+    show_fields(true);
+}
+
+/* 9,999 payments, one byte more, and faults far back; few, for they are long. */
+static void long_files(void)
+{
+    payments = MOST_PAYMENTS;
+    draft_n = MOST_FILE;
+    sample_q(draft);
+    for (size_t r = 1; r <= payments; r++)
+        sample_t(record_of(r), (payment_kind)(r % 4), "US", r, r % 100);
+    memcpy(record_of(1) + 475, "'", 1);
+    memcpy(record_of(MOST_PAYMENTS) + 679, "'&", 2);
+    record_of(MOST_PAYMENTS)[713] = 0xFF;
+    sample_z(draft, payments);
+    lend_draft();
+    lend_taken(NULL, 0);
+    run_expecting(JUDGE, 0);
+    const uint64_t *a = run_expecting(JUDGE_FULL, 0);
+    if (a[2] != 9999 || a[3] != 49995000 || a[4] != 495000)
+        differ("9999 payments, 49995000 euros, 495000 cents expected");
+    if (!prepare_pair())
+        differ("a sound file of 9,999 payments refused");
+    for (int way = 0; way < RESTORE_WAYS; way += 4)
+        restore_changed(way);
+    for (size_t places = 0; places < 3; places++)
+        rooms(2, places);
+    rooms(1, 3);
+    show_fields(true);
+    uint8_t *last = record_of(payments), kept = last[766];          /* T27 */
+    last[766] = 'X';
+    lend_draft();
+    run_expecting(JUDGE, 999934);
+    last[766] = kept;
+    draft[draft_n - 1] = 'X';
+    lend_draft();
+    run_expecting(JUDGE, 1000040);
+    draft[--draft_n] = ' ';
+    lend_draft();
+    run_expecting(JUDGE, 1000002);
+    draft_n = MOST_FILE;                                            /* as many notes as there can be */
+    for (size_t r = 0; r <= payments; r++)
+        for (int f = r ? 2 : 1; f <= (r ? 9 : 1); f++)
+            for (int i = text[f].first; i <= text[f].last; i++) {
+                uint8_t *b = record_of(r) + i;
+                *b = changed_into(*b);
+            }
+    lend_draft();
+    if (!prepare_pair())
+        differ("a sound file with changes everywhere refused");
+    rooms(2, 1);
+    restore_changed(FALLING);
+    draft_n = MOST_FILE + 1;
+    lend_draft();
+    for (size_t which = 0; which < 4; which++)
+        other_call(1, 0, which);
+    run_expecting(JUDGE, 1);
+    memset(draft, 0, MOST_FILE + 1);
+    lend_draft();
+    run_expecting(JUDGE, 1);
+    draft_n = MOST_FILE;
+    lend_draft();
+    run_expecting(JUDGE, 4);
+}
+
+/* ---- Everything at random ----------------------------------------------------------------- */
+
+static void random_case(void)
+{
+    if (one_in(3)) use_random_lists();
+    else use_annexes();
+    random_file(one_in(20) ? 5 + below(20) : 1 + below(4), NULL, (int)below(3));
+    switch (below(8)) {
+    case 0: spoil_at_random(); break;
+    case 1: for (size_t k = 2 + below(3); k > 0; k--) spoil_at_random(); break;
+    case 2: structure_fault(); break;
+    case 3: for (size_t k = 1 + below(4); k > 0; k--) draft[below(draft_n)] = (uint8_t)any(); break;
+    default: break;
+    }
+    now.shift = one_in(4) ? below(16) : 0;
+    lend_draft();
+    taken_lists();
+    show_fields(false);
+    if (draft_n >= 512 && prepare_pair()) {
+        for (int k = 0; k < 3; k++)
+            rooms(below(6), below(6));
+        for (int k = 0; k < 5; k++)
+            restore_changed((int)below(RESTORE_WAYS));
+    } else {
+        now.room = one_in(2) ? draft_n : below(draft_n + 50);
+        now.places = below(100);
+        run(PREPARE);
+        lend(NOTES_IN, NULL, 0);
+        run(RESTORE);
+    }
+}
+
+int main(int argc, char **argv)
+{
+    const char *kept = NULL;
+    for (int i = 1; i < argc; i++) {
+        bool more = i + 1 < argc;
+        if (strcmp(argv[i], "--null") == 0) lend_null = true;
+        else if (more && strcmp(argv[i], "--seed") == 0) random_state = strtoull(argv[++i], NULL, 0);
+        else if (more && strcmp(argv[i], "--calls") == 0) wanted_calls = strtoull(argv[++i], NULL, 0);
+        else if (more && strcmp(argv[i], "--replay") == 0) kept = argv[++i];
+        else {
+            fprintf(stderr, "usage: compare [--seed N] [--calls N] [--null] | compare --replay FILE\n");
+            return 2;
+        }
+    }
+    make_areas();
+    watch_signals();
+    if (kept)
+        return replay(kept);
+    use_annexes();
+    fixed_cases();
+    each_length();
+    each_room_and_pair(60);
+    each_rule_alone();
+    each_pair_of_rules();
+    each_character();
+    each_byte();
+    long_files();
+    wrong_countries = true;
+    while (calls < wanted_calls)
+        random_case();
+    printf("%" PRIu64 " calls compared, 0 differ\n", calls);
+    return 0;
+}
