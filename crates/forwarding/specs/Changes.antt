@@ -10,7 +10,7 @@ use lib.Dec.{eqb, lit≤}
 use lib.ListN.{length}
 use Rattle.laws.specs.Choice.{either}
 use Rattle.laws.specs.Steps.{fold}
-use Rattle.charset.specs.Table.{unchanged, rep, changes-are}
+use Rattle.charset.specs.Table.{unchanged, rep, text, unchanged-rep, changes-are}
 use Rattle.forwarding.specs.Text.{textAt}
 use Rattle.forwarding.specs.Forwarded.{notes, notesOf}
 use Rattle.forwarding.specs.Parts.{always, notes-append, notes-few}
@@ -68,6 +68,19 @@ changes-noted i s = count-from 0 i s ∙ omega arith
 
 pub changes-few : (s : List ℕ) → changes s ≤ length s
 changes-few s = omega (arith, changes-noted 0 s, ap length (text-notes 0 0 s), notes-few (rep 0) always 0 s)
+
+-- a text with no change is as the table has it
+pub unchanged-text : (page : ℕ) (s : List ℕ) → changes s ≡ 0 → text page s ≡ s
+unchanged-text page s e = go 0 s (sym (changes-noted 0 s) ∙ e)
+  where
+    go : (i : ℕ) (s : List ℕ) → length (textNotes i s) ≡ 0 → text page s ≡ s
+    go i [] e = refl
+    go i (b ∷ s) e = by (unchanged b) refl e (go (suc i) s)
+      where
+        by : (kept : Bool) → unchanged b ≡ kept → length (cond kept (textNotes (suc i) s) ((i * 256 + b) ∷ textNotes (suc i) s)) ≡ 0
+            → (length (textNotes (suc i) s) ≡ 0 → text page s ≡ s) → text page (b ∷ s) ≡ b ∷ s
+        by true q e rest = ap₂ _∷_ (unchanged-rep page b q) (rest e)
+        by false q e rest = absurd (omega arith)
 
 pub changed-few : (b : ℕ) → changed b ≤ 1
 changed-few b = either (λ (n : ℕ). n ≤ 1) (unchanged b) 0 1 (lit≤ tt) (lit≤ tt)

@@ -6,12 +6,23 @@ use records::Z;
 ghost use mathlib.Core.Path.{_≡_};
 ghost use Prim.Native.Nat.{_-_, _≤_};
 ghost use lib.ListN.{length};
-ghost use Rattle.charset.specs.Table.{rep};
+ghost use Rattle.charset.specs.Table.{rep, text};
 ghost use Rattle.forwarding.specs.Text.{lies, qTexts, tTexts};
 ghost use Rattle.forwarding.specs.Forwarded.{fwd, forwarded};
 ghost use Rattle.forwarding.specs.Put.{put};
 ghost use Rattle.forwarding.specs.Pieces.{sentIn};
 ghost use Rattle.prepare.specs.Sized.{Sized, zAt};
+
+// A text field in its stretch of the output. Few have anything to replace: that is counted first, many bytes a step.
+fn stretch(page: u32, field: &mut [u8])
+    requires { ⌜ length (now field) ≤ 140 ⌝ }
+    ensures { λ _. ⌜ now (field .exit) ≡ text page (now (field .entry)) ⌝ }
+{
+    if crate::count::field(field) == 0 {
+        return;
+    }
+    charset::replace(page, field);
+}
 
 fn replace_q(page: u32, rec: &mut [u8])
     requires { ⌜ length (now rec) ≡ 256 ⌝ }
@@ -20,7 +31,7 @@ fn replace_q(page: u32, rec: &mut [u8])
     let field = Q::text(1);
     let start = field.start;
     let end = field.end;
-    charset::replace(page, &mut rec[start..end]);
+    stretch(page, &mut rec[start..end]);
 }
 
 fn replace_t(page: u32, rec: &mut [u8])
@@ -32,7 +43,7 @@ fn replace_t(page: u32, rec: &mut [u8])
         let field = T::text(k);
         let start = field.start;
         let end = field.end;
-        charset::replace(page, &mut rec[start..end]);
+        stretch(page, &mut rec[start..end]);
         k += 1;
     }
 }
