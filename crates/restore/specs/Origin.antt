@@ -21,15 +21,9 @@ use Rattle.forwarding.specs.RoundTrip.{Bytes, both, forwarded-length, forwarded
 use Rattle.prepare.specs.Prepared.{refused, done, sendOf, prepareOf, PreparedAs}
 use Rattle.prepare.specs.declared.Prepared.{Prepared}
 use Rattle.alike.specs.Files.{judged-alike}
+use Rattle.restore.specs.Yields.{SoundOrigin}
 use Rattle.restore.specs.Restored.{answer, isYielded, restoreOf, outputOf, RestoredAs}
 use Rattle.restore.specs.declared.Restored.{Restored}
-
--- a sound file that yields the pair; its bytes are bytes
-pub record SoundOrigin (page : ℕ) (transfer cheque file sent notes : List ℕ) : Type 0 where
-  pub bytes : Bytes file
-  pub sound : verdictOf page file transfer cheque .number ≡ 0
-  pub forwards : forwarded page file ≡ sent
-  pub notes-are : notesOf page file ≡ notes
 
 module _ (page : ℕ) (transfer cheque : List ℕ) where
   -- a file and its forwarded file are sound together
@@ -127,7 +121,7 @@ module _ (page : ℕ) (transfer cheque : List ℕ) where
   -- what prepare left comes from the file that it prepared
   module _ (file out notes out' notes' : List ℕ) (given : Prepared) (promise : PreparedAs page file transfer cheque out notes given out' notes')
       (z : given .number ≡ 0) where
-    success : (verdictOf page file transfer cheque .number ≡ 0) × (given .notes ≡ length (notesOf page file))
+    pub success : (verdictOf page file transfer cheque .number ≡ 0) × (given .notes ≡ length (notesOf page file))
     unfolding prepareOf sendOf
     success = go (eqb (verdictOf page file transfer cheque .number) 0) (ltb (length out) (length file)) (ltb (length notes) (length (notesOf page file))) refl (promise .answer-is)
       where

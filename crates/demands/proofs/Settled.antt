@@ -1,0 +1,38 @@
+-- A refused call keeps what it was lent, and every promise leaves one outcome.
+use Prim.Native.Nat.{ℕ}
+use mathlib.Core.Path.{_≡_, refl, sym, ap, _∙_}
+use mathlib.Core.Bool.{Bool, cond}
+use mathlib.Core.List.{List}
+use lib.Dec.{eqb}
+use Rattle.laws.specs.Choice.{off-eq}
+use Rattle.forwarding.specs.Forwarded.{forwarded, notesOf}
+use Rattle.forwarding.specs.Put.{put}
+use Rattle.prepare.specs.Prepared.{outputOf, notesAfter}
+use Rattle.prepare.specs.declared.Prepared.{Prepared}
+use Rattle.restore.specs.Origin.{refused-keeps, one-outcome}
+use Rattle.demands.specs.Demand1.{PrepareKeeps, RestoreKeeps}
+use Rattle.demands.specs.Settled.{JudgeSettled, PrepareSettled, RestoreSettled, ShowSettled}
+
+pub prepare-keeps : PrepareKeeps
+prepare-keeps file transfer cheque out notes out' notes' answer promise z =
+    (promise .out-is ∙ sym (off-eq _ z refl), promise .notes-are ∙ sym (off-eq _ z refl))
+
+pub restore-keeps : RestoreKeeps
+restore-keeps sent notes transfer cheque out out' answer promise z = refused-keeps 0 transfer cheque sent notes out out' answer promise z
+
+pub judge-settled : JudgeSettled
+judge-settled file transfer cheque taken a b p q = p ∙ sym q
+
+pub prepare-settled : PrepareSettled
+prepare-settled file transfer cheque out notes out₁ notes₁ out₂ notes₂ a b p q =
+    let same : a ≡ b = p .answer-is ∙ sym (q .answer-is) in (
+      same,
+      p .out-is ∙ ap (λ (r : Prepared). outputOf r 0 file out) same ∙ sym (q .out-is),
+      p .notes-are ∙ ap (λ (r : Prepared). notesAfter r 0 file notes) same ∙ sym (q .notes-are),
+    )
+
+pub restore-settled : RestoreSettled
+restore-settled sent notes transfer cheque out out₁ out₂ a b p q = one-outcome 0 transfer cheque sent notes out out₁ out₂ a b p q
+
+pub show-settled : ShowSettled
+show-settled file rec field a b p q = p ∙ sym q

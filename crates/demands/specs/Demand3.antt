@@ -1,0 +1,46 @@
+-- Demand 3: "Two different sound files never share forwarded file and notes. Restore accepts a pair exactly when some sound
+-- file yields it, and gives back that very file. The forwarded file is sound and yields itself, with no notes." Under fixed
+-- country lists, which every statement below is given first.
+use Prim.Native.Nat.{ℕ, _≤_}
+use mathlib.Core.Path.{_≡_}
+use mathlib.Core.List.{List, []}
+use mathlib.Core.Logic.{_↔_}
+use lib.ListN.{length, take}
+use Rattle.forwarding.specs.Put.{put}
+use Rattle.forwarding.specs.RoundTrip.{Bytes}
+use Rattle.prepare.specs.Prepared.{PreparedAs}
+use Rattle.prepare.specs.declared.Prepared.{Prepared}
+use Rattle.restore.specs.Yields.{SoundOrigin}
+use Rattle.restore.specs.Restored.{RestoredAs}
+use Rattle.restore.specs.declared.Restored.{Restored}
+
+module _ (transfer cheque : List ℕ) where
+  -- a sound file that yields the forwarded file and the notes
+  abbrev pub Yields : List ℕ → List ℕ → List ℕ → Type 0
+  Yields file sent notes = SoundOrigin 0 transfer cheque file sent notes
+
+abbrev pub NeverShared : Type 0
+NeverShared = (transfer cheque f g sent notes : List ℕ) → Yields transfer cheque f sent notes → Yields transfer cheque g sent notes → f ≡ g
+
+-- with room for the file: restore answers 0 exactly when some sound file yields the pair
+abbrev pub AcceptsExactly : Type 0
+AcceptsExactly =
+    (transfer cheque sent notes out out' : List ℕ) (answer : Restored) → Bytes sent → length sent ≤ length out
+    → RestoredAs 0 sent notes transfer cheque out answer out'
+    → (answer .number ≡ 0) ↔ ((file : List ℕ) × Yields transfer cheque file sent notes)
+
+abbrev pub GivesBack : Type 0
+GivesBack =
+    (transfer cheque file sent notes out out' : List ℕ) (answer : Restored) → Yields transfer cheque file sent notes
+    → length sent ≤ length out → RestoredAs 0 sent notes transfer cheque out answer out' → (answer .number ≡ 0) × (out' ≡ put 0 file out)
+
+abbrev pub YieldsItself : Type 0
+YieldsItself = (transfer cheque file sent notes : List ℕ) → Yields transfer cheque file sent notes → Yields transfer cheque sent sent []
+
+-- what prepare left, restore turns back into the file
+abbrev pub TurnsBack : Type 0
+TurnsBack =
+    (transfer cheque file out notes out' notes' room room' : List ℕ) (prepared : Prepared) (restored : Restored) → Bytes file
+    → PreparedAs 0 file transfer cheque out notes prepared out' notes' → prepared .number ≡ 0
+    → RestoredAs 0 (take (length file) out') (take (prepared .notes) notes') transfer cheque room restored room' → length file ≤ length room
+    → (restored .number ≡ 0) × (room' ≡ put 0 file room)
