@@ -10,14 +10,23 @@ else
     run=("$kit/on/$(uname -m)/toolchain/bin/qemu-x86_64")
     export DESK_EMULATED=1
     if ! command -v x86_64-linux-gnu-gcc >/dev/null; then
-        apt-get install -y -q gcc-x86-64-linux-gnu libc6-dev-amd64-cross >/dev/null
+        (apt-get update -q && apt-get install -y -q gcc-x86-64-linux-gnu libc6-dev-amd64-cross) >/dev/null
     fi
 fi
 
-# The library, proved, and the folder for what is built here.
-library() {
-    rt staticlib host >/dev/null
+# What rt says is shown only where it fails.
+quietly() {
     mkdir -p target/tests
+    if ! "$@" >target/tests/rt.log 2>&1; then
+        tail -n 30 target/tests/rt.log >&2
+        echo "$* failed" >&2
+        return 1
+    fi
+}
+
+# The library, proved.
+library() {
+    quietly rt staticlib host
 }
 
 # build NAME SOURCE..: target/tests/NAME over the library
