@@ -1,7 +1,8 @@
 -- Document 01, "Character table": what the receiver carries, and what each other character becomes.
 -- A-Z, a-z, 0-9, space and . , - / + % are unchanged. & becomes +, $ becomes S, and the four German characters become
--- A, O, U and S: page 0 reads them at their DIN 66003 codes, every other page at their ISO 8859-1 codes. Every other byte
--- becomes a space. The theorem, `rep-rep`: a replaced character is its own replacement, on every page.
+-- A, O, U and S: page 0 reads them at their DIN 66003 codes, as document 01 says. Every other byte becomes a space. Other
+-- pages, for document 02, A2, read the four at their ISO 8859-1 codes. The theorem, `rep-rep`: a replaced character is its
+-- own replacement, on every page.
 use Prim.Native.Nat.{ℕ, zero, suc}
 use mathlib.Core.Path.{_≡_, refl, sym, ap, _∙_}
 use mathlib.Core.Bool.{Bool, true, false, _&&_, _||_, cond, false≢true}

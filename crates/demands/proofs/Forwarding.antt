@@ -7,7 +7,7 @@ use native.Mathlib.Nat.{zero-add}
 use native.Mathlib.Omega.{arith}
 use borrow.Author.Tests.{eqb-false, ne-eqb, not-true}
 use lib.Dec.{eqb}
-use lib.ListN.{length, getD, take, drop}
+use lib.ListN.{length, getD, take, drop, length-append}
 use lib.Seq.{drop-at}
 use Rattle.laws.specs.Choice.{on-eq}
 use Rattle.charset.specs.Table.{rep}
@@ -75,6 +75,9 @@ forwards file transfer cheque out notes out' notes' answer bytes promise z =
       output = subst (Replaced file) (o .forwards) (replaced file);
       output-rest =
           ap (drop (length file)) (promise .out-is ∙ sym (on-eq _ z refl)) ∙ behind (forwarded 0 file) out (length file) (forwarded-length 0 file);
+      counted =
+          omega
+          (arith, count, ap length (promise .notes-are ∙ sym (on-eq _ z refl)), length-append (notesOf 0 file) (drop (0 + length (notesOf 0 file)) notes));
       noted = subst (Listed file) (o .notes-are) (listed file bytes);
       notes-rest =
           ap (drop (answer .notes)) (promise .notes-are ∙ sym (on-eq _ z refl)) ∙ behind (notesOf 0 file) notes (answer .notes) count;

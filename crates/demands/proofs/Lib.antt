@@ -2,7 +2,9 @@ pub mod Cases
 pub mod Ranges
 pub mod Fitting
 pub mod Demand2
+pub mod Judge
 pub mod Notes
+pub mod Show
 pub mod Forwarding
 pub mod Demand3
 pub mod Settled

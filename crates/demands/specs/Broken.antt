@@ -1,5 +1,5 @@
--- Document 01, "Rules and refusal numbers": when a rule is broken, and where. Nothing here walks: each definition speaks
--- of one record of the file, at the place that its number gives it.
+-- Document 01, "Rules and refusal numbers": when a rule is broken, and where. Nothing here walks: a record stands at
+-- the place that its number gives it.
 use Prim.Native.Nat.{ℕ, _-_, _<_}
 use Prim.Native.Char.{code}
 use mathlib.Core.Path.{_≡_}

@@ -1,6 +1,6 @@
 -- Demand 2: "The forwarded file is the sound file with each text character replaced by the table, and the notes list every
 -- changed character once, by rising place."
-use Prim.Native.Nat.{ℕ, _+_, _*_, _/_, _%_, _<_}
+use Prim.Native.Nat.{ℕ, _+_, _*_, _/_, _%_, _≤_, _<_}
 use mathlib.Core.Path.{_≡_}
 use mathlib.Core.Bool.{true, false}
 use mathlib.Core.List.{List}
@@ -36,6 +36,7 @@ module _ (file : List ℕ) where
     pub sound : verdictOf 0 file transfer cheque .number ≡ 0
     pub output : Replaced (take (length file) out')
     pub output-rest : drop (length file) out' ≡ drop (length file) out
+    pub counted : count ≤ length notes'
     pub noted : Listed (take count notes')
     pub notes-rest : drop count notes' ≡ drop count notes
 

@@ -3,6 +3,7 @@ pub mod Cases
 pub mod Broken
 pub mod Demand1
 pub mod Demand2
+pub mod Show
 pub mod Forwarding
 pub mod Demand3
 pub mod Settled

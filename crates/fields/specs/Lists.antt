@@ -1,4 +1,4 @@
--- Lent lists. "Country lists are lent bytes: two bytes a country, a lone last byte ignored, any content allowed."
+-- Document 01, lent lists: "Country lists are lent bytes: two bytes a country, a lone last byte ignored, any content allowed."
 -- "Taken numbers are lent as a list of 64-bit numbers."
 use Prim.Native.Nat.{ℕ}
 use mathlib.Core.Bool.{Bool, true, false, _&&_, _||_}

@@ -1,4 +1,4 @@
--- Numbers in decimal digits, and dates.
+-- Document 01: numbers in decimal digits, and "date YYMMDD (years 2000 to 2099)".
 use Prim.Native.Nat.{ℕ, _+_, _*_, _-_, _%_}
 use mathlib.Core.Bool.{Bool, _&&_, _||_, cond}
 use mathlib.Core.List.{List}

@@ -6,7 +6,7 @@ use mathlib.Core.Logic.{⊎-elim}
 use mathlib.Core.List.{List, [], _∷_, _++_}
 use native.Mathlib.Nat.{eq-or-lt-of-le}
 use native.Mathlib.Omega.{arith}
-use lib.Dec.{leb, leb→le, T}
+use lib.Dec.{leb, ltb, leb→le, ltb→lt, T}
 use lib.ListN.{take}
 use Rattle.records.specs.Places.{tText}
 use Rattle.records.specs.Inside.{Inside}
@@ -43,3 +43,7 @@ module _ (k : ℕ) (low : 2 ≤ k) (high : k < 10) where
   -- no text field has more than 140 characters
   pub text-short : tText k .end - tText k .start ≤ 140
   text-short = leb→le _ _ (tested (λ s. leb (s .end - s .start) 140) (tt, (tt, (tt, (tt, (tt, (tt, (tt, (tt, tt)))))))))
+
+  -- and none is without any
+  pub text-wide : tText k .start < tText k .end
+  text-wide = ltb→lt _ _ (tested (λ s. ltb (s .start) (s .end)) (tt, (tt, (tt, (tt, (tt, (tt, (tt, (tt, tt)))))))))

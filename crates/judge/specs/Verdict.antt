@@ -25,6 +25,7 @@ sound payments euros cents = record { number = 0; rec = 0; payments = payments; 
 abbrev pub unless : Broken → Verdict → Verdict
 unless fault verdict = cond (eqb (fault .number) 0) verdict (refused (fault .number) (fault .rec))
 
+-- the number and the values of each case of the walk
 abbrev pub verdictBy : Shape → ℕ → List ℕ → List ℕ → List ℕ → Verdict
 verdictBy (Refused number rec) page file transfer cheque = refused number rec
 verdictBy (Fits n) page file transfer cheque =

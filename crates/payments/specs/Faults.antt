@@ -1,4 +1,4 @@
--- Rules 20 to 35 by number: what a rule says of a T record, 0 or a place. A number that is no rule of its says 0.
+-- Rules 20 to 35 by number: what a rule says of a T record, 0 or a place. A number that is no T rule says 0.
 use Prim.Native.Nat.{ℕ}
 use mathlib.Core.List.{List, [], _∷_}
 use Rattle.rules.specs.Faults.{byNumber}

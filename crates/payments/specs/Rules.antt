@@ -28,7 +28,7 @@ unfoldable pub rule20 : List ℕ → ℕ
 rule20 rec =
     firstWrong (t T3 (allOf Digit (inT T3 rec)) ∷ t T4a (same (inT T4a rec) (ascii "EUR")) ∷ t T4b (allOf Digit (inT T4b rec)) ∷ [])
 
--- the part of record 1 that holds T3 and T4b, handed in as a key, and these two in it
+-- the part of record 1 that holds T3 and T4b, handed in as a key, and these two in it: `key-t3`, `key-t4b` of Key
 abbrev pub keyOf : List ℕ → List ℕ
 keyOf first = part (5 to 25) first
 
@@ -72,8 +72,8 @@ rule25 page rec =
     0
 
 -- a country of a list and a space; two capitals and a space
-unfoldable pub isLand : List ℕ → List ℕ → Bool
-isLand list s = isListed list (getD s 0 0) (getD s 1 0) && eqb (getD s 2 0) (code " ")
+unfoldable pub isCountry : List ℕ → List ℕ → Bool
+isCountry list s = isListed list (getD s 0 0) (getD s 1 0) && eqb (getD s 2 0) (code " ")
 
 unfoldable pub isTwoCapitals : List ℕ → Bool
 isTwoCapitals s = allOf Capital (part (0 to 1) s) && allOf Space (part (2 to 2) s)
@@ -86,7 +86,7 @@ hasBic page rec = bicShape page (inT T8 rec)
 unfoldable pub rule26 : ℕ → List ℕ → List ℕ → ℕ
 rule26 page transfer rec =
     cond (isTransfer rec)
-    (firstWrong (t T9a (cond (hasBic page rec) (allOf Space (inT T9a rec) || isTwoCapitals (inT T9a rec)) (isLand transfer (inT T9a rec))) ∷ []))
+    (firstWrong (t T9a (cond (hasBic page rec) (allOf Space (inT T9a rec) || isTwoCapitals (inT T9a rec)) (isCountry transfer (inT T9a rec))) ∷ []))
     0
 
 -- 27: transfer: T8 has no BIC shape and T9b is blank
@@ -96,8 +96,8 @@ rule27 page rec = cond (isTransfer rec) (firstWrong (t T9b (hasBic page rec || n
 -- 28: T10a not a listed country (transfer list or cheque list, by T22) and a space
 unfoldable pub rule28 : List ℕ → List ℕ → List ℕ → ℕ
 rule28 transfer cheque rec =
-    cond (isTransfer rec) (firstWrong (t T10a (isLand transfer (inT T10a rec)) ∷ []))
-    (cond (isCheque rec) (firstWrong (t T10a (isLand cheque (inT T10a rec)) ∷ [])) 0)
+    cond (isTransfer rec) (firstWrong (t T10a (isCountry transfer (inT T10a rec)) ∷ []))
+    (cond (isCheque rec) (firstWrong (t T10a (isCountry cheque (inT T10a rec)) ∷ [])) 0)
 
 -- 29: first line of T10b blank; for a cheque, also line 3 or line 4 blank
 unfoldable pub rule29 : ℕ → List ℕ → ℕ

@@ -11,7 +11,7 @@ ghost use Rattle.records.specs.declared.TField.the-variants.{T10b};
 ghost use Rattle.records.specs.Places.{_to_, tPlace};
 ghost use Rattle.records.specs.Inside.{Held};
 ghost use Rattle.rules.specs.Wrong.{lineBlank};
-ghost use Rattle.payments.specs.Rules.{inT, isTransfer, isCheque, isLand, isTwoCapitals, hasBic};
+ghost use Rattle.payments.specs.Rules.{inT, isTransfer, isCheque, isCountry, isTwoCapitals, hasBic};
 ghost use Rattle.payments.specs.Rules.{rule20, rule21, rule22, rule23, rule24, rule25, rule26, rule27, rule28};
 ghost use Rattle.payments.specs.Rules.{rule29, rule30, rule31, rule32, rule33, rule34, rule35};
 ghost use Rattle.payments.specs.Faults.{tFault};
@@ -157,9 +157,9 @@ fn rule25(page: u32, rec: &[u8]) -> usize
 }
 
 // A country of the list and a space.
-fn is_land(list: &[u8], s: &[u8]) -> bool
+fn is_country(list: &[u8], s: &[u8]) -> bool
     requires { ⌜ length (now s) ≡ 3 ⌝ }
-    ensures { λ r. ⌜ r ≡ isLand (now (list .entry)) (now (s .entry)) ⌝ }
+    ensures { λ r. ⌜ r ≡ isCountry (now (list .entry)) (now (s .entry)) ⌝ }
 {
     fields::listed(list, s[0], s[1]) & (s[2] == b' ')
 }
@@ -194,7 +194,7 @@ fn rule26(page: u32, transfer: &[u8], rec: &[u8]) -> usize
         let right = fields::all(Class::Space, t9a) | is_two_capitals(t9a);
         return at(right, TField::T9a, 0);
     }
-    at(is_land(transfer, t9a), TField::T9a, 0)
+    at(is_country(transfer, t9a), TField::T9a, 0)
 }
 
 // 27: transfer: T8 has no BIC shape and T9b is blank.
@@ -218,10 +218,10 @@ fn rule28(transfer: &[u8], cheque: &[u8], rec: &[u8]) -> usize
 {
     let t10a = T::field(rec, TField::T10a);
     if is_transfer(rec) {
-        return at(is_land(transfer, t10a), TField::T10a, 0);
+        return at(is_country(transfer, t10a), TField::T10a, 0);
     }
     if is_cheque(rec) {
-        return at(is_land(cheque, t10a), TField::T10a, 0);
+        return at(is_country(cheque, t10a), TField::T10a, 0);
     }
     0
 }

@@ -3,16 +3,12 @@ use Prim.Native.Nat.{ℕ, _+_, _-_, _≤_, _<_}
 use mathlib.Core.Path.{_≡_, refl, ap, _∙_}
 use mathlib.Core.List.{List}
 use native.Mathlib.Omega.{arith}
-use lib.ListN.{length, drop, length-take}
+use lib.ListN.{length}
 use Rattle.records.specs.Places.{part, qText, tText}
-use Rattle.records.specs.Inside.{Inside, inside, q-inside}
+use Rattle.records.specs.Inside.{Inside, inside, q-inside, part-le}
 use Rattle.records.specs.declared.Span.{Span}
 use Rattle.records.specs.declared.QField.the-variants.{Q5}
 use Rattle.forwarding.specs.Numbered.{text-inside, text-short}
-
-part-short : (s : Span) (rec : List ℕ) → length (part s rec) ≤ s .end - s .start
-unfolding part
-part-short s rec = omega (arith, length-take (s .end - s .start) (drop (s .start) rec))
 
 pub same-part : {s place : Span} → s ≡ place → (rec : List ℕ) {field : List ℕ} → field ≡ part s rec → field ≡ part place rec
 same-part e rec bytes = bytes ∙ ap (λ (s : Span). part s rec) e
@@ -23,7 +19,7 @@ module _ {s : Span} (at : s ≡ qText 1) where
 
   module _ (rec : List ℕ) {field : List ℕ} (bytes : field ≡ part s rec) where
     pub q-short : length field ≤ 140
-    q-short = omega (arith, ap length (same-part at rec bytes), part-short (qText 1) rec)
+    q-short = omega (arith, ap length (same-part at rec bytes), part-le (qText 1) rec)
 
     pub q-ends : s .start + length field ≤ 256
     q-ends = rw at (omega (arith, q-short))
@@ -34,9 +30,9 @@ module _ (k : ℕ) (low : 2 ≤ k) (high : k < 10) {s : Span} (at : s ≡ tText 
 
   module _ (rec : List ℕ) {field : List ℕ} (bytes : field ≡ part s rec) where
     pub t-short : length field ≤ 140
-    t-short = omega (arith, ap length (same-part at rec bytes), part-short (tText k) rec, text-short k low high)
+    t-short = omega (arith, ap length (same-part at rec bytes), part-le (tText k) rec, text-short k low high)
 
     pub t-ends : s .start + length field ≤ 768
     t-ends =
         let i = inside at (text-inside k low high) refl in
-        omega (arith, i .0, i .1, ap length bytes, part-short s rec)
+        omega (arith, i .0, i .1, ap length bytes, part-le s rec)

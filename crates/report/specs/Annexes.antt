@@ -1,4 +1,4 @@
--- "The program's lists are Annex II (transfers) and Annex I (cheques) of source document 000", in document order: 156 and
+-- Document 01: "The program's lists are Annex II (transfers) and Annex I (cheques) of source document 000", in document order: 156 and
 -- 22 countries.
 use Prim.Native.Nat.{ℕ}
 use mathlib.Core.Path.{_≡_, refl}

@@ -54,12 +54,3 @@ told file k = cond (eqb (faultIn k (slotAt file k)) 0) (Fits (k - 1)) (Refused (
 unfoldable pub structureOf : List ℕ → Shape
 structureOf file =
     cond (ltb 7679744 (length file)) (Refused 1 0) (first (stops file) (told file) (Refused 2 10001) 0 10001)
-
--- document 01's number and record of a refusal; 0 for a file that fits
-abbrev pub numberOf : Shape → ℕ
-numberOf (Fits n) = 0
-numberOf (Refused number k) = number
-
-abbrev pub recordOf : Shape → ℕ
-recordOf (Fits n) = 0
-recordOf (Refused number k) = k

@@ -4,7 +4,7 @@ use mathlib.Core.Bool.{_||_}
 use Rattle.fields.specs.Class.{allOf}
 use Rattle.fields.specs.declared.Class.the-variants.{Space}
 use Rattle.laws.specs.Choice.{picks, on-not, on-call, off-call, same-choice}
-use Rattle.payments.specs.Rules.{rule26, isTwoCapitals, isLand}
+use Rattle.payments.specs.Rules.{rule26, isTwoCapitals, isCountry}
 use Rattle.payments.proofs.rule26.Statement.{statement}
 use Rattle.payments.proofs.rule26.Tie as tie
 
@@ -31,5 +31,5 @@ rule26-spec =
     (λ c.
     on-not _ (c .before .before .before .before .before .before .is-transfer .ensures) (c .before .before .before .before .before .if1 .left)
     (same-choice _ (c .at2 .ensures)
-    (off-call _ (c .before .before .before .has-bic .ensures) (c .before .before .if2 .left) (c .before .is-land .ensures ∙ ap (isLand _) (c .before .before .before .before .field .ensures .bytes)))
+    (off-call _ (c .before .before .before .has-bic .ensures) (c .before .before .if2 .left) (c .before .is-country .ensures ∙ ap (isCountry _) (c .before .before .before .before .field .ensures .bytes)))
     refl)))
