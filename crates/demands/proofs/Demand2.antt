@@ -26,34 +26,42 @@ use Rattle.judge.specs.Verdict.{sound as soundWith}
 use Rattle.judge.specs.Told.{told-refused, told-fits}
 use Rattle.judge.specs.declared.Broken.{Broken as Found}
 use Rattle.judge.specs.declared.Verdict.{Verdict}
-use Rattle.demands.specs.Broken.{TooLong, Unfit, Wrong, Broken, Before, stage}
-use Rattle.demands.specs.Demand2.{Answered, Judged}
+use Rattle.demands.specs.Broken.{TooLong, Unfit, Wrong, Broken, Before, stage, walkRules, BrokenIn}
+use Rattle.demands.specs.Demand1.{ContentRule}
+use Rattle.demands.specs.Demand2.{Sound, Answered, Judged}
 use Rattle.demands.proofs.Ranges.{q-range, t-range, z-range, stage-content, stage-walk}
+use Rattle.demands.proofs.Turns.{FirstIn, told-first, walk-range, right-whole, due-walked, walked-due}
 use Rattle.demands.proofs.Fitting.{due-to, due-here, right-here, no-unfit, says-is}
 
 module _ (page : ℕ) (transfer cheque file : List ℕ) where
   -- rule 1 is broken by long files alone
-  no-long : (m j : ℕ) → length file ≤ 7679744 → TooLong file m j → ⊥
-  no-long m j short t = omega (arith, t .long)
+  no-long : (m j i : ℕ) → length file ≤ 7679744 → TooLong file m j i → ⊥
+  no-long m j i short t = omega (arith, t .long)
 
   -- the stage of each kind of fault
-  unfit-stage : (m j : ℕ) → Unfit file m j → stage m ≡ 1
-  unfit-stage m j u =
-      subst (λ (x : ℕ). stage x ≡ 1) (u .fault) (stage-walk j (slotAt file j) (λ z. u .real (sym (u .fault) ∙ z)))
+  unfit-stage : (m j i : ℕ) → Unfit file m j i → stage m ≡ 1
+  unfit-stage m j i u = let r = walk-range j (slotAt file j) i m (u .broken) in stage-walk m (r .0) (r .1)
 
-  content-stage : (m j : ℕ) → Wrong page transfer cheque file m j → stage m ≡ 2
-  content-stage m j w =
-      stage-content m (go (eqb (letterOf (slotAt file j)) (code "Q")) (eqb (letterOf (slotAt file j)) (code "T")) (w .broken))
+  pub content-rule : (m j i : ℕ) → Wrong page transfer cheque file m j i → ContentRule m
+  content-rule m j i w = go (eqb (letterOf (slotAt file j)) (code "Q")) (eqb (letterOf (slotAt file j)) (code "T")) (w .broken)
     where
       go : (a b : Bool)
           → (cond a (qFault page (slotAt file j) m)
           (cond b (tFault page transfer cheque (keyOf (slotAt file 1)) (slotAt file j) m) (zFault (j - 1) (euroSum file (j - 1)) (slotAt file j) m))
           ≡ 0
           → ⊥)
-          → 10 ≤ m
-      go true b f = q-range page (slotAt file j) m f .0
-      go false true f = omega (arith, t-range page transfer cheque (keyOf (slotAt file 1)) (slotAt file j) m f .0)
-      go false false f = omega (arith, z-range (j - 1) (euroSum file (j - 1)) (slotAt file j) m f .0)
+          → ContentRule m
+      go true b f = let r = q-range page (slotAt file j) m f in inl (r .0, omega (arith, r .1))
+      go false true f = let r = t-range page transfer cheque (keyOf (slotAt file 1)) (slotAt file j) m f in inr (inl (r .0, omega (arith, r .1)))
+      go false false f = let r = z-range (j - 1) (euroSum file (j - 1)) (slotAt file j) m f in inr (inr (r .0, omega (arith, r .1)))
+
+  content-stage : (m j i : ℕ) → Wrong page transfer cheque file m j i → stage m ≡ 2
+  content-stage m j i w = stage-content m (low (content-rule m j i w))
+    where
+      low : ContentRule m → 10 ≤ m
+      low (inl r) = r .0
+      low (inr (inl r)) = omega (arith, r .0)
+      low (inr (inr r)) = omega (arith, r .0)
 
   module _ (n : ℕ) (short : length file ≤ 7679744) (fit : Fit file n) where
     F : ℕ → ℕ → ℕ
@@ -72,51 +80,57 @@ module _ (page : ℕ) (transfer cheque file : List ℕ) where
         go false true f = t-range page transfer cheque (keyOf (slotAt file 1)) (slotAt file j) m f
         go false false f = z-range n (euroSum file n) (slotAt file j) m f
 
-    wrong-f : (m j : ℕ) → Wrong page transfer cheque file m j → F j m ≡ 0 → ⊥
+    due-in : (m j i : ℕ) → Wrong page transfer cheque file m j i → j ≤ n + 1
+    due-in m j i w = due-to file n fit j (due-walked file j (w .due))
+
+    wrong-f : (m j i : ℕ) → Wrong page transfer cheque file m j i → F j m ≡ 0 → ⊥
     unfolding F
-    wrong-f m j w e = w .broken (says-is file n fit page transfer cheque m j (due-to file n fit j (w .due)) ∙ e)
+    wrong-f m j i w e = w .broken (says-is file n fit page transfer cheque m j (due-in m j i w) ∙ e)
 
     -- only a wrong record can be told of a file that fits
-    by-wrong : (m j : ℕ) → (Wrong page transfer cheque file m j → ⊥) → Broken page transfer cheque file m j → ⊥
-    by-wrong m j f (inl t) = no-long m j short t
-    by-wrong m j f (inr (inl u)) = no-unfit file n fit m j u
-    by-wrong m j f (inr (inr w)) = f w
+    by-wrong : (m j i : ℕ) → (Wrong page transfer cheque file m j i → ⊥) → Broken page transfer cheque file m j i → ⊥
+    by-wrong m j i f (inl t) = no-long m j i short t
+    by-wrong m j i f (inr (inl u)) = no-unfit file n fit m j i u
+    by-wrong m j i f (inr (inr w)) = f w
 
     answer : Found
     answer = firstBroken F (ruleFrom n) (ruleEnd n) (n + 2)
 
-    none-wrong : answer .number ≡ 0 → (m j : ℕ) → Wrong page transfer cheque file m j → ⊥
+    none-wrong : answer .number ≡ 0 → (m j i : ℕ) → Wrong page transfer cheque file m j i → ⊥
     unfolding answer
-    none-wrong z m j w =
-        let f = wrong-f m j w in
+    none-wrong z m j i w =
+        let f = wrong-f m j i w in
         let r = in-rules j m f in
-        f (sound F (ruleFrom n) (ruleEnd n) (rule-real n) (n + 2) z j (omega (arith, due-to file n fit j (w .due))) m (r .0) (r .1))
+        f (sound F (ruleFrom n) (ruleEnd n) (rule-real n) (n + 2) z j (omega (arith, due-in m j i w)) m (r .0) (r .1))
 
     module _ (ne : answer .number ≡ 0 → ⊥) where
       found : FirstBroken F (ruleFrom n) (ruleEnd n) (rule-real n) (n + 2) answer
       unfolding answer
       found = broken F (ruleFrom n) (ruleEnd n) (rule-real n) (n + 2) ne
 
-      there : Wrong page transfer cheque file (answer .number) (answer .rec)
+      there : Wrong page transfer cheque file (answer .number) (answer .rec) (answer .number)
       unfolding F
       there =
           let in-file : answer .rec ≤ n + 1 = omega (arith, found .below) in
           record {
-            due = due-here file n fit (answer .rec) (found .below);
-            whole = right-here file n fit (answer .rec) in-file;
+            turn = refl;
+            due = walked-due file (answer .rec) (due-here file n fit (answer .rec) (found .below));
+            whole = right-whole file (answer .rec) (right-here file n fit (answer .rec) in-file);
             broken = λ e. found .broken (sym (says-is file n fit page transfer cheque (answer .number) (answer .rec) in-file) ∙ e);
           }
 
-      none-before : (m j : ℕ) → Before m j (answer .number) (answer .rec) → Wrong page transfer cheque file m j → ⊥
-      none-before m j (inl l) w = omega (arith, content-stage m j w, content-stage (answer .number) (answer .rec) there)
-      none-before m j (inr (e, inl l)) w =
-          let f = wrong-f m j w in
+      none-before : (m j i : ℕ) → Before m j i (answer .number) (answer .rec) (answer .number) → Wrong page transfer cheque file m j i → ⊥
+      none-before m j i (inl l) w =
+          omega (arith, content-stage m j i w, content-stage (answer .number) (answer .rec) (answer .number) there)
+      none-before m j i (inr (e, inl l)) w =
+          let f = wrong-f m j i w in
           let r = in-rules j m f in
           f (found .records-before j l m (r .0) (r .1))
-      none-before m j (inr (e, inr (q, l))) w =
-          let f = wrong-f m j w in
+      none-before m j i (inr (e, inr (q, l))) w =
+          let f = wrong-f m j i w in
           let r = in-rules j m f in
-          f (ap (λ (i : ℕ). F i m) q ∙ found .rules-before m (subst (λ (i : ℕ). ruleFrom n i ≤ m) q (r .0)) l)
+          let below : m < answer .number = omega (arith, w .turn, l) in
+          f (ap (λ (k : ℕ). F k m) q ∙ found .rules-before m (subst (λ (k : ℕ). ruleFrom n k ≤ m) q (r .0)) below)
 
     of-fits : Answered page transfer cheque file (unless answer (soundWith n (euroSum file n) (centSum file n)) .number)
         (unless answer (soundWith n (euroSum file n) (centSum file n)) .rec)
@@ -127,59 +141,58 @@ module _ (page : ℕ) (transfer cheque file : List ℕ) where
 
         go : (t : Bool) → eqb (answer .number) 0 ≡ t → Answered page transfer cheque file (v t .number) (v t .rec)
         go true e =
-            let none : (m j : ℕ) → Broken page transfer cheque file m j → ⊥ = λ m j. by-wrong m j (none-wrong (eqb-true (answer .number) 0 e) m j) in
-            record { sound = (λ z. none, λ f. refl); there = λ ne. absurd (ne refl); first = λ m j b. none m j }
+            let none : Sound page transfer cheque file = λ m j i. by-wrong m j i (none-wrong (eqb-true (answer .number) 0 e) m j i) in
+            record { sound = (λ z. none, λ f. refl); first = λ ne. absurd (ne refl) }
         go false e =
             let ne = eqb-false (answer .number) 0 e in
+            let here : Broken page transfer cheque file (answer .number) (answer .rec) (answer .number) = inr (inr (there ne)) in
             record {
-              sound = (λ z. absurd (ne z), λ none. absurd (none (answer .number) (answer .rec) (inr (inr (there ne)))));
-              there = λ f. inr (inr (there ne));
-              first = λ m j b. by-wrong m j (none-before ne m j b);
+              sound = (λ z. absurd (ne z), λ none. absurd (none (answer .number) (answer .rec) (answer .number) here));
+              first = λ f. record { turn = answer .number; there = here; none-before = λ m j i b. by-wrong m j i (none-before ne m j i b) };
             }
 
   -- a file that is too long
   of-long : 7679744 < length file → Answered page transfer cheque file 1 0
   of-long l =
-      let here : Broken page transfer cheque file 1 0 = inl (record { rule = refl; at-first = refl; long = l }) in
+      let here : Broken page transfer cheque file 1 0 0 = inl (record { rule = refl; first-record = refl; first-turn = refl; long = l }) in
       record {
-        sound = (λ z. absurd (omega (arith, z)), λ none. absurd (none 1 0 here));
-        there = λ f. here;
-        first = λ m j b x. none-first m j b;
+        sound = (λ z. absurd (omega (arith, z)), λ none. absurd (none 1 0 0 here));
+        first = λ f. record { turn = 0; there = here; none-before = λ m j i b x. none-first m j i b };
       }
     where
-      none-first : (m j : ℕ) → Before m j 1 0 → ⊥
-      none-first m j (inl l) = omega arith
-      none-first m j (inr (e, inl l)) = omega arith
-      none-first m j (inr (e, inr (q, l))) = low-stage m l e
-        where
-          low-stage : (m : ℕ) → m < 1 → stage m ≡ 0 → ⊥
-          low-stage m h e =
-              let z : m ≡ 0 = omega arith in
-              let q : stage 0 ≡ 0 = sym (ap stage z) ∙ e in
-              omega (arith, q)
+      none-first : (m j i : ℕ) → Before m j i 1 0 0 → ⊥
+      none-first m j i (inl l) = omega arith
+      none-first m j i (inr (e, inl l)) = omega arith
+      none-first m j i (inr (e, inr (q, l))) = omega arith
 
   -- a record that the walk cannot pass
   of-stuck : (number rec : ℕ) → length file ≤ 7679744 → Stuck file number rec → Answered page transfer cheque file number rec
   of-stuck number rec short s =
-      let here : Broken page transfer cheque file number rec = inr (inl (record { due = s .due; fault = s .broken; real = s .real })) in
       record {
-        sound = (λ z. absurd (s .real z), λ none. absurd (none number rec here));
-        there = λ f. here;
-        first = λ m j b. none m j b;
+        sound = (λ z. absurd (s .real z), λ none. absurd (none number rec (f .turn) here));
+        first = λ z. record { turn = f .turn; there = here; none-before = none-before };
       }
     where
-      here-1 : stage number ≡ 1
-      here-1 = unfit-stage number rec (record { due = s .due; fault = s .broken; real = s .real })
+      f : FirstIn (walkRules rec (slotAt file rec)) number
+      f = told-first rec (slotAt file rec) number (s .broken) (s .real)
 
-      none : (m j : ℕ) → Before m j number rec → Broken page transfer cheque file m j → ⊥
-      none m j b (inl t) = no-long m j short t
-      none m j (inl l) (inr (inl u)) = omega (arith, here-1, unfit-stage m j u)
-      none m j (inr (e, inl l)) (inr (inl u)) = u .real (sym (u .fault) ∙ s .due j l .right)
-      none m j (inr (e, inr (q, l))) (inr (inl u)) =
-          let same : m ≡ number = sym (u .fault) ∙ ap (λ (i : ℕ). faultIn i (slotAt file i)) q ∙ s .broken in
-          omega arith
-      none m j (inl l) (inr (inr w)) = omega (arith, here-1, content-stage m j w)
-      none m j (inr (e, x)) (inr (inr w)) = omega (arith, here-1, content-stage m j w)
+      unfit : Unfit file number rec (f .turn)
+      unfit = record { due = walked-due file rec (s .due); broken = f .there }
+
+      here : Broken page transfer cheque file number rec (f .turn)
+      here = inr (inl unfit)
+
+      here-1 : stage number ≡ 1
+      here-1 = unfit-stage number rec (f .turn) unfit
+
+      none-before : (m j i : ℕ) → Before m j i number rec (f .turn) → Broken page transfer cheque file m j i → ⊥
+      none-before m j i b (inl t) = no-long m j i short t
+      none-before m j i (inl l) (inr (inl u)) = omega (arith, here-1, unfit-stage m j i u)
+      none-before m j i (inr (e, inl l)) (inr (inl u)) = right-whole file j (s .due j l .right) i m (u .broken)
+      none-before m j i (inr (e, inr (q, l))) (inr (inl u)) =
+          f .none-before i m l (subst (λ (k : ℕ). BrokenIn (walkRules k (slotAt file k)) i m) q (u .broken))
+      none-before m j i (inl l) (inr (inr w)) = omega (arith, here-1, content-stage m j i w)
+      none-before m j i (inr (e, x)) (inr (inr w)) = omega (arith, here-1, content-stage m j i w)
 
 pub judged : Judged
 unfolding contentOf answer F

@@ -22,7 +22,8 @@ use Rattle.structure.specs.Fits.{Due, Passed, Fit}
 use Rattle.judge.specs.Sums.{euroSum}
 use Rattle.judge.specs.Content.{faultOf}
 use Rattle.judge.specs.ByKind.{of-q, of-t, of-z}
-use Rattle.demands.specs.Broken.{TooLong, Unfit, Wrong, says}
+use Rattle.demands.specs.Broken.{Unfit, says}
+use Rattle.demands.proofs.Turns.{right-whole, due-walked}
 
 module _ (file : List ℕ) (n : ℕ) (fit : Fit file n) where
   -- the walk comes to no record after Z
@@ -41,8 +42,8 @@ module _ (file : List ℕ) (n : ℕ) (fit : Fit file n) where
       ⊎-elim (λ (e : j ≡ n + 1). subst (λ (i : ℕ). faultIn i (slotAt file i) ≡ 0) (sym e) (fit .right))
       (λ (l : j < n + 1). fit .due j l .right) (eq-or-lt-of-le h)
 
-  pub no-unfit : (m j : ℕ) → Unfit file m j → ⊥
-  no-unfit m j u = u .real (sym (u .fault) ∙ right-here j (due-to j (u .due)))
+  pub no-unfit : (m j i : ℕ) → Unfit file m j i → ⊥
+  no-unfit m j i u = right-whole file j (right-here j (due-to j (due-walked file j (u .due)))) i m (u .broken)
 
   module _ (page : ℕ) (transfer cheque : List ℕ) (rule : ℕ) where
     F : ℕ → ℕ

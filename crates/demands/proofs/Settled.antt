@@ -1,24 +1,11 @@
--- A refused call keeps what it was lent, and every promise leaves one outcome.
+-- Every promise leaves one outcome.
 use Prim.Native.Nat.{ℕ}
-use mathlib.Core.Path.{_≡_, refl, sym, ap, _∙_}
-use mathlib.Core.Bool.{Bool, cond}
+use mathlib.Core.Path.{_≡_, sym, ap, _∙_}
 use mathlib.Core.List.{List}
-use lib.Dec.{eqb}
-use Rattle.laws.specs.Choice.{off-eq}
-use Rattle.forwarding.specs.Forwarded.{forwarded, notesOf}
-use Rattle.forwarding.specs.Put.{put}
 use Rattle.prepare.specs.Prepared.{outputOf, notesAfter}
 use Rattle.prepare.specs.declared.Prepared.{Prepared}
-use Rattle.restore.specs.Origin.{refused-keeps, one-outcome}
-use Rattle.demands.specs.Demand1.{PrepareKeeps, RestoreKeeps}
+use Rattle.restore.specs.Origin.{one-outcome}
 use Rattle.demands.specs.Settled.{JudgeSettled, PrepareSettled, RestoreSettled, ShowSettled}
-
-pub prepare-keeps : PrepareKeeps
-prepare-keeps file transfer cheque out notes out' notes' answer promise z =
-    (promise .out-is ∙ sym (off-eq _ z refl), promise .notes-are ∙ sym (off-eq _ z refl))
-
-pub restore-keeps : RestoreKeeps
-restore-keeps sent notes transfer cheque out out' answer promise z = refused-keeps 0 transfer cheque sent notes out out' answer promise z
 
 pub judge-settled : JudgeSettled
 judge-settled file transfer cheque taken a b p q = p ∙ sym q

@@ -12,15 +12,20 @@ use Rattle.judge.specs.Verdict.{verdictOf, judgeOf}
 use Rattle.judge.specs.declared.Verdict.{Verdict}
 use Rattle.demands.specs.Broken.{Broken, Before}
 
--- the file breaks no rule at any record
+-- the file breaks no rule, at any record
 abbrev pub Sound : ℕ → List ℕ → List ℕ → List ℕ → Type 0
-Sound page transfer cheque file = (m j : ℕ) → Broken page transfer cheque file m j → ⊥
+Sound page transfer cheque file = (m j i : ℕ) → Broken page transfer cheque file m j i → ⊥
 
-module _ (page : ℕ) (transfer cheque file : List ℕ) where
-  pub record Answered (number rec : ℕ) : Type 0 where
+-- a broken rule before which none is broken
+module _ (page : ℕ) (transfer cheque file : List ℕ) (number rec : ℕ) where
+  pub record First : Type 0 where
+    pub turn : ℕ
+    pub there : Broken page transfer cheque file number rec turn
+    pub none-before : (m j i : ℕ) → Before m j i number rec turn → Broken page transfer cheque file m j i → ⊥
+
+  pub record Answered : Type 0 where
     pub sound : (number ≡ 0) ↔ Sound page transfer cheque file
-    pub there : (number ≡ 0 → ⊥) → Broken page transfer cheque file number rec
-    pub first : (m j : ℕ) → Before m j number rec → Broken page transfer cheque file m j → ⊥
+    pub first : (number ≡ 0 → ⊥) → First
 
 abbrev pub Judged : Type 0
 Judged =

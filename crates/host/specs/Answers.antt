@@ -1,5 +1,5 @@
--- What hosts in C get where it differs from the calls: "record × 100 + number" of the judge without taken numbers, and a
--- shown field's place and length.
+-- Document 01: "Payroll hosts written in C call the judge with byte slices, without taken numbers, and get record × 100 +
+-- number." And a shown field's place and length.
 use Prim.Native.Nat.{ℕ, _+_, _*_, _-_, _≤_, _<_}
 use mathlib.Core.List.{List, []}
 use Rattle.judge.specs.Verdict.{judgeOf}

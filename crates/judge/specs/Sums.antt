@@ -1,4 +1,5 @@
--- Document 01, the sums over the T records: whole euros of T14a, and cents, "first two digits of T14b, added, not carried into euros".
+-- Document 01, the sums over the T records: whole euros of T14a, and cents, "first two digits of T14b, added, not carried
+-- into euros".
 -- And a file's number, "the 18 digits of Q4, Q6, Q7 as one whole number".
 use Prim.Native.Nat.{ℕ, zero, suc, _+_, _*_, _^_, _≤_, _<_}
 use mathlib.Core.Path.{_≡_, refl, sym, ap, _∙_}
