@@ -1,43 +1,38 @@
 -- A file and its forwarded file are judged alike: the structure is read from heads, which are no text, and every rule
 -- says the same of a record and of the record as it is forwarded.
-use Prim.Native.Nat.{ℕ, zero, suc, _+_, _*_, _-_, _%_, _≤_, _<_}
-use Prim.Native.Char.{code}
+use Prim.Native.Nat.{ℕ, zero, suc, _+_, _-_, _%_, _≤_, _<_}
 use mathlib.Core.Path.{_≡_, refl, sym, ap, ap₂, subst, fun-ext, _∙_}
 use mathlib.Core.Bool.{Bool, true, false, _&&_, cond, and-false}
 use mathlib.Core.List.{List}
 use native.Mathlib.Omega.{arith}
-use borrow.Author.Tests.{eqb-true, eqb-false, leb-true, leb-false, ltb-true, lt-ltb, le-ltb}
+use borrow.Author.Tests.{eqb-true, eqb-false, leb-true, leb-false, lt-ltb, le-ltb}
 use lib.Dec.{eqb, leb, ltb, lit<, lit≤}
 use lib.ListN.{length, getD, take, drop, length-take}
 use lib.Seq.{getD-take, take-take}
-use Rattle.charset.specs.Table.{rep, text}
-use Rattle.records.specs.Places.{_to_, recordAt, part}
-use Rattle.records.specs.declared.Span.{Span}
+use Rattle.charset.specs.Table.{rep}
+use Rattle.records.specs.Places.{_to_, recordAt}
 use Rattle.structure.specs.Slots.{widthAt, slotAt, place-is, slot-length, later-width}
-use Rattle.structure.specs.Walk.{digitsOf, letterOf, faultIn, stops, told, structureOf}
+use Rattle.structure.specs.Walk.{letterOf, faultIn, stops, told, structureOf}
 use Rattle.structure.specs.Fits.{Fit, Tells, tells}
 use Rattle.structure.specs.declared.Shape.{Shape}
 use Rattle.structure.specs.declared.Shape.the-variants.{Fits, Refused}
-use Rattle.laws.specs.Scan.{first}
 use Rattle.rules.specs.Faults.{qFault, zFault}
 use Rattle.payments.specs.Rules.{keyOf}
 use Rattle.payments.specs.Faults.{tFault}
 use Rattle.judge.specs.First.{firstBroken}
 use Rattle.judge.specs.Content.{faultOf, ruleFrom, ruleEnd, contentOf}
-use Rattle.judge.specs.Sums.{total, euros, cents, euroSum, centSum}
-use Rattle.judge.specs.Verdict.{unless, sound, refused, verdictBy, verdictOf}
-use Rattle.judge.specs.declared.Verdict.{Verdict}
+use Rattle.judge.specs.Sums.{euroSum, centSum}
+use Rattle.judge.specs.Verdict.{unless, sound, verdictBy, verdictOf}
 use Rattle.forwarding.specs.Text.{lies, qTexts, tTexts, textAt}
 use Rattle.forwarding.specs.Text.{text as textual}
 use Rattle.forwarding.specs.Forwarded.{fwd, forwarded}
-use Rattle.alike.specs.Reads.{Alike, alike, fwd-length, fwd-drop, fwd-take, fwd-none, fwd-from, lies-apart}
+use Rattle.forwarding.specs.Parts.{fwd-length}
+use Rattle.forwarding.specs.Pieces.{text-q}
+use Rattle.forwarding.specs.RoundTrip.{forwarded-length}
+use Rattle.alike.specs.Reads.{Alike, alike, fwd-drop, fwd-take, fwd-none, fwd-from, lies-apart}
 use Rattle.alike.specs.Rules.{q-as, t-as, key-as, euros-as, cents-as}
 
--- text places by record: offset i of record 0, and of record k
-pub text-q : (i : ℕ) → i < 256 → textual i ≡ lies qTexts i
-unfolding textual
-text-q i h = ap (λ (b : Bool). cond b (lies qTexts i) (lies tTexts ((i - 256) % 768))) (lt-ltb i 256 h)
-
+-- text places by record: offset i of record k
 pub text-t : (k i : ℕ) → 1 ≤ k → i < 768 → textual (recordAt k + i) ≡ lies tTexts i
 unfolding textual
 text-t k i h l =
@@ -48,10 +43,6 @@ text-t k i h l =
 module _ (page : ℕ) (file : List ℕ) where
   T : ℕ → Bool
   T = textAt (length file)
-
-  same-length : length (forwarded page file) ≡ length file
-  unfolding forwarded
-  same-length = fwd-length (rep page) (textAt (length file)) 0 file
 
   -- the slot of a forwarded file
   slot-fwd : (k : ℕ) → slotAt (forwarded page file) k ≡ fwd (rep page) T (0 + recordAt k) (slotAt file k)
@@ -102,7 +93,7 @@ module _ (page : ℕ) (file : List ℕ) where
   structure-same =
       let stop : stops (forwarded page file) ≡ stops file = fun-ext (λ k. rw (fault-same k, letter-same k)) in
       let tell : told (forwarded page file) ≡ told file = fun-ext (λ k. rw (fault-same k)) in
-      rw (same-length, stop, tell)
+      rw (forwarded-length page file, stop, tell)
 
   module _ (n : ℕ) (fit : Fit file n) where
     -- the records of a file that fits

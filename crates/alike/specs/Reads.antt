@@ -3,19 +3,20 @@
 use Prim.Native.Nat.{ℕ, zero, suc, _+_, _-_, _≤_, _<_}
 use mathlib.Core.Path.{_≡_, refl, sym, ap, ap₂, _∙_}
 use mathlib.Core.Bool.{Bool, true, false, _&&_, _||_, cond, and-false}
-use mathlib.Core.List.{List, [], _∷_, map}
+use mathlib.Core.List.{List, [], _∷_}
 use native.Mathlib.Nat.{add-zero, suc-add, add-suc}
 use native.Mathlib.Omega.{arith}
 use borrow.Author.Tests.{leb-true, lt-leb, le-ltb}
 use lib.Dec.{leb, ltb}
 use lib.ListN.{length, take, drop}
-use Rattle.fields.specs.Laws.{and-left, and-right}
+use Rattle.laws.specs.Choice.{both}
 use Rattle.charset.specs.Table.{rep, text, rep-rep}
 use Rattle.records.specs.Places.{part}
 use Rattle.records.specs.Inside.{part-le}
 use Rattle.records.specs.declared.Span.{Span}
 use Rattle.forwarding.specs.Text.{lies}
 use Rattle.forwarding.specs.Forwarded.{fwd}
+use Rattle.forwarding.specs.Parts.{fwd-length}
 
 -- a place that lies apart from each of the places: the test computes
 abbrev pub apart : List Span → Span → Bool
@@ -30,10 +31,6 @@ pub record Alike (page : ℕ) (ss : List Span) (a b : List ℕ) : Type 0 where
 
 -- forwarding, part by part
 module _ (r : ℕ → ℕ) (t : ℕ → Bool) where
-  pub fwd-length : (i : ℕ) (f : List ℕ) → length (fwd r t i f) ≡ length f
-  fwd-length i [] = refl
-  fwd-length i (b ∷ f) = ap suc (fwd-length (suc i) f)
-
   pub fwd-drop : (n i : ℕ) (f : List ℕ) → drop n (fwd r t i f) ≡ fwd r t (i + n) (drop n f)
   fwd-drop zero i f = ap (λ (k : ℕ). fwd r t k f) (sym (add-zero i))
   fwd-drop (suc n) i [] = refl
@@ -75,7 +72,8 @@ pub lies-apart : (ss : List Span) (s : Span) (k : ℕ) → apart ss s ≡ true �
 lies-apart [] s k e p q = refl
 lies-apart (t ∷ ts) s k e p q =
     let here = leb (s .end) (t .start) || leb (t .end) (s .start) in
-    ap₂ _||_ (go (leb (s .end) (t .start)) refl (and-left here (apart ts s) e)) (lies-apart ts s k (and-right here (apart ts s) e) p q)
+    let w = both here (apart ts s) e in
+    ap₂ _||_ (go (leb (s .end) (t .start)) refl (w .0)) (lies-apart ts s k (w .1) p q)
   where
     go : (b : Bool) → leb (s .end) (t .start) ≡ b → b || leb (t .end) (s .start) ≡ true → leb (t .start) k && ltb k (t .end) ≡ false
     go true g h = ap (λ (c : Bool). c && ltb k (t .end)) (lt-leb (t .start) k (omega (arith, leb-true (s .end) (t .start) g)))

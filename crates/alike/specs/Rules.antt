@@ -1,9 +1,8 @@
 -- Every rule says the same of two records that are read alike.
 use Prim.Native.Nat.{ℕ, zero, suc}
-use mathlib.Core.Path.{_≡_, refl, sym, ap, ap₂, _∙_}
+use mathlib.Core.Path.{_≡_, refl, sym, ap, _∙_}
 use mathlib.Core.Bool.{true}
-use mathlib.Core.List.{List, [], _∷_, map}
-use lib.Dec.{eqb}
+use mathlib.Core.List.{List, [], _∷_}
 use lib.ListN.{getD, take, drop, List·getD-map}
 use Rattle.charset.specs.Table.{rep, text}
 use Rattle.records.specs.Places.{_to_, part, lineOf, qPlace, tPlace}
@@ -14,7 +13,6 @@ use Rattle.records.specs.declared.TField.{TField}
 use Rattle.records.specs.declared.TField.the-variants.{T3, T4a, T4b, T5, T6, T7a, T7b, T8, T9a, T9b, T10a, T10b, T11, T12, T13, T14a, T14b, T16, T17, T18, T19, T21, T22, T25, T26, T27}
 use Rattle.fields.specs.Class.{allOf, blank}
 use Rattle.fields.specs.Bic.{bicShape}
-use Rattle.fields.specs.declared.Class.{Class}
 use Rattle.fields.specs.declared.Class.the-variants.{Space}
 use Rattle.rules.specs.Wrong.{lineBlank}
 use Rattle.rules.specs.Q.{rule10, rule11, rule12, rule13, rule14, rule15, rule16}

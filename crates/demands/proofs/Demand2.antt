@@ -4,7 +4,7 @@ use Prim.Native.Char.{code}
 use mathlib.Core.Path.{_≡_, refl, sym, ap, subst, subst₂, _∙_}
 use mathlib.Core.Bool.{Bool, true, false, cond}
 use mathlib.Core.List.{List}
-use mathlib.Core.Logic.{_⊎_, inl, inr}
+use mathlib.Core.Logic.{inl, inr}
 use native.Mathlib.Omega.{arith}
 use borrow.Author.Tests.{eqb-true, eqb-false}
 use lib.Dec.{eqb, leb}
@@ -13,7 +13,7 @@ use Rattle.rules.specs.Faults.{qFault, zFault}
 use Rattle.payments.specs.Rules.{keyOf}
 use Rattle.payments.specs.Faults.{tFault}
 use Rattle.structure.specs.Slots.{slotAt}
-use Rattle.structure.specs.Walk.{letterOf, structureOf, faultIn}
+use Rattle.structure.specs.Walk.{letterOf, structureOf}
 use Rattle.structure.specs.Fits.{Fit, Stuck, Tells, tells}
 use Rattle.structure.specs.declared.Shape.{Shape}
 use Rattle.structure.specs.declared.Shape.the-variants.{Fits, Refused}

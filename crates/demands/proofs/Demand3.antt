@@ -1,6 +1,5 @@
 -- Demand 3, by the laws of restore (restore/specs/Origin).
-use Prim.Native.Nat.{ℕ}
-use mathlib.Core.Path.{_≡_, ap}
+use mathlib.Core.Path.{ap}
 use Rattle.restore.specs.Origin.{one-sound-file, gives-back, accepts-only, yields-itself, comes-back}
 use Rattle.restore.specs.declared.Restored.{Restored}
 use Rattle.demands.specs.Demand3.{NeverShared, AcceptsExactly, GivesBack, YieldsItself, TurnsBack}

@@ -1,24 +1,22 @@
 -- In a file that fits, the records are 0 to n + 1, none is unfit, and what a rule says of a record is what the content
 -- walk reads.
-use Prim.Native.Nat.{ℕ, _+_, _*_, _-_, _≤_, _<_}
+use Prim.Native.Nat.{ℕ, _+_, _-_, _≤_, _<_}
 use Prim.Native.Char.{code}
-use mathlib.Core.Path.{_≡_, refl, sym, ap, ap₂, subst, _∙_}
+use mathlib.Core.Path.{_≡_, refl, sym, ap, subst, _∙_}
 use mathlib.Core.Bool.{Bool, true, false, cond}
 use mathlib.Core.List.{List}
-use mathlib.Core.Logic.{_⊎_, inl, inr, ⊎-elim}
+use mathlib.Core.Logic.{⊎-elim}
 use native.Mathlib.Nat.{eq-or-lt-of-le}
-use native.Mathlib.Decide.{decLe}
 use native.Mathlib.Omega.{arith}
 use borrow.Author.Tests.{eqb-true, eqb-false, leb-true, leb-false}
 use lib.Dec.{eqb, leb}
-use lib.ListN.{length}
 use Rattle.rules.specs.Faults.{qFault, zFault}
 use Rattle.payments.specs.Rules.{keyOf}
 use Rattle.payments.specs.Faults.{tFault}
 use Rattle.structure.specs.Slots.{slotAt}
-use Rattle.structure.specs.Walk.{letterOf, faultIn, allowed}
+use Rattle.structure.specs.Walk.{letterOf, faultIn}
 use Rattle.structure.specs.Whole.{whole, letter-q, letter-t}
-use Rattle.structure.specs.Fits.{Due, Passed, Fit}
+use Rattle.structure.specs.Fits.{Due, Fit}
 use Rattle.judge.specs.Sums.{euroSum}
 use Rattle.judge.specs.Content.{faultOf}
 use Rattle.judge.specs.ByKind.{of-q, of-t, of-z}

@@ -1,22 +1,22 @@
 -- What prepare leaves: each text character replaced, and the notes of what changed.
 use Prim.Native.Nat.{ℕ, _+_, _*_, _<_}
 use mathlib.Core.Path.{_≡_, refl, sym, ap, subst, _∙_}
-use mathlib.Core.Bool.{Bool, true, false, _&&_, not, cond}
+use mathlib.Core.Bool.{Bool, true, not, cond}
 use mathlib.Core.List.{List}
 use native.Mathlib.Nat.{zero-add}
 use native.Mathlib.Omega.{arith}
 use borrow.Author.Tests.{eqb-false, ne-eqb, not-true}
 use lib.Dec.{eqb}
-use lib.ListN.{length, getD, take, drop, length-append}
+use lib.ListN.{length, getD, drop, length-append}
 use lib.Seq.{drop-at}
-use Rattle.laws.specs.Choice.{on-eq}
+use Rattle.laws.specs.Choice.{on-eq, both}
 use Rattle.charset.specs.Table.{rep}
 use Rattle.forwarding.specs.Text.{textAt}
 use Rattle.forwarding.specs.Forwarded.{differs, forwarded, notesOf}
 use Rattle.forwarding.specs.Put.{put}
-use Rattle.forwarding.specs.RoundTrip.{Bytes, both, forwarded-length}
+use Rattle.forwarding.specs.RoundTrip.{Bytes, forwarded-length}
 use Rattle.restore.specs.Origin.{success, prepared-origin}
-use Rattle.demands.specs.Forwarding.{Replaced, Changed, Listed, Sent, Forwards}
+use Rattle.demands.specs.Forwarding.{Replaced, Changed, Listed, Forwards}
 use Rattle.demands.proofs.Notes.{fwd-at, only-changed, every-changed, rising}
 
 module _ (file : List ℕ) where

@@ -1,7 +1,5 @@
 -- Every promise leaves one outcome.
-use Prim.Native.Nat.{ℕ}
 use mathlib.Core.Path.{_≡_, sym, ap, _∙_}
-use mathlib.Core.List.{List}
 use Rattle.prepare.specs.Prepared.{outputOf, notesAfter}
 use Rattle.prepare.specs.declared.Prepared.{Prepared}
 use Rattle.restore.specs.Origin.{one-outcome}

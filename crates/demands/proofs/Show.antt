@@ -1,22 +1,22 @@
 -- A shown field is empty exactly where there is none.
 use Prim.Native.Nat.{ℕ, _+_, _-_, _≤_, _<_}
-use mathlib.Core.Path.{_≡_, refl, sym, ap, subst, _∙_}
-use mathlib.Core.Bool.{Bool, true, false, _&&_, cond}
-use mathlib.Core.List.{List, [], _∷_}
-use mathlib.Core.Logic.{_⊎_, inl, inr}
+use mathlib.Core.Path.{_≡_, refl, sym, ap}
+use mathlib.Core.Bool.{Bool, true, false, cond}
+use mathlib.Core.List.{List, []}
+use mathlib.Core.Logic.{inl, inr}
 use native.Mathlib.Omega.{arith}
 use borrow.Author.Tests.{eqb-true, eqb-false, leb-true, leb-false}
 use lib.Dec.{eqb, leb, T, leb→le}
 use lib.ListN.{length, drop, length-take, length-drop}
 use Rattle.laws.specs.Choice.{off-eq}
-use Rattle.records.specs.Places.{recordAt, part, nowhere, numbered, qText, tText}
+use Rattle.records.specs.Places.{recordAt, part, nowhere, qText, tText}
 use Rattle.records.specs.declared.Span.{Span}
 use Rattle.structure.specs.Walk.{structureOf}
 use Rattle.structure.specs.declared.Shape.{Shape}
 use Rattle.structure.specs.declared.Shape.the-variants.{Fits, Refused}
 use Rattle.forwarding.specs.Numbered.{text-wide}
 use Rattle.show.specs.Shown.{moved, shownBy, shownAt, shownOf, shown-inside, in-q, in-t}
-use Rattle.demands.specs.Show.{Has, There, EmptyExactly}
+use Rattle.demands.specs.Show.{There, EmptyExactly}
 
 -- a T record has no text field of another number
 module _ (f : ℕ) (out : 2 ≤ f → f ≤ 9 → ⊥) where

@@ -12,7 +12,7 @@ use Rattle.fields.specs.Class.{same}
 use Rattle.structure.specs.Slots.{slotAt}
 use Rattle.structure.specs.Walk.{letterOf, digitsOf, allowed, lengthFor, digitsFor, faultIn}
 use Rattle.structure.specs.Fits.{Due as Walked}
-use Rattle.demands.specs.Broken.{walkRules, BrokenIn, Whole, Passed, Due}
+use Rattle.demands.specs.Broken.{walkRules, BrokenIn, Whole, Due}
 
 -- the first broken rule of a list, or 0
 abbrev firstOf : List (ℕ × Bool) → ℕ

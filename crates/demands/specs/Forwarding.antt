@@ -1,6 +1,6 @@
 -- Demand 2: "The forwarded file is the sound file with each text character replaced by the table, and the notes list every
 -- changed character once, by rising place."
-use Prim.Native.Nat.{ℕ, _+_, _*_, _/_, _%_, _≤_, _<_}
+use Prim.Native.Nat.{ℕ, _+_, _*_, _/_, _≤_, _<_}
 use mathlib.Core.Path.{_≡_}
 use mathlib.Core.Bool.{true, false}
 use mathlib.Core.List.{List}

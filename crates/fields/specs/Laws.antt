@@ -1,5 +1,5 @@
 -- The tests and the value of a list as loops carry them along, and the bound of a value.
-use Prim.Native.Nat.{ℕ, zero, suc, _+_, _*_, _^_, _-_, _<_, _≤_}
+use Prim.Native.Nat.{ℕ, suc, _+_, _*_, _^_, _-_, _<_, _≤_}
 use mathlib.Core.Path.{_≡_, refl, sym, ap, _∙_}
 use mathlib.Core.Bool.{Bool, true, false, _&&_, _||_, cond, and-true, or-false, and-assoc, or-assoc, and-false}
 use mathlib.Core.List.{List, [], _∷_}
@@ -51,14 +51,6 @@ unlike [] [] h = absurd (h refl)
 unlike [] (y ∷ t) h = refl
 unlike (x ∷ s) [] h = refl
 unlike (x ∷ s) (y ∷ t) h = rw (unlike s t (λ e. h (ap suc e))) (and-false (eqb x y))
-
-pub and-left : (a b : Bool) → a && b ≡ true → a ≡ true
-and-left true b e = refl
-and-left false b e = e
-
-pub and-right : (a b : Bool) → a && b ≡ true → b ≡ true
-and-right true b e = e
-and-right false b e = cc
 
 pub digit-lt : (b : ℕ) → digitOf b < 10
 digit-lt b = go (leb 48 b) (leb b 57) refl

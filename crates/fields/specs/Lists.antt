@@ -1,7 +1,7 @@
 -- Document 01, lent lists: "Country lists are lent bytes: two bytes a country, a lone last byte ignored, any content allowed."
 -- "Taken numbers are lent as a list of 64-bit numbers."
 use Prim.Native.Nat.{ℕ}
-use mathlib.Core.Bool.{Bool, true, false, _&&_, _||_}
+use mathlib.Core.Bool.{Bool, false, _&&_, _||_}
 use mathlib.Core.List.{List, [], _∷_}
 use lib.Dec.{eqb}
 

@@ -9,7 +9,6 @@ use native.Mathlib.Omega.{arith}
 use lib.Dec.{leb, ltb, leb→le, ltb→lt, T}
 use lib.ListN.{take}
 use Rattle.records.specs.Places.{tText}
-use Rattle.records.specs.Inside.{Inside}
 use Rattle.records.specs.declared.Span.{Span}
 use Rattle.forwarding.specs.Text.{tTexts}
 
@@ -35,10 +34,6 @@ module _ (k : ℕ) (low : 2 ≤ k) (high : k < 10) where
 
   tested : (test : Span → Bool) → Each (λ k. T (test (tText k))) 2 8 → T (test (tText k))
   tested test all = each (λ k. T (test (tText k))) 8 2 all k low high
-
-  pub text-inside : Inside 768 (tText k)
-  text-inside =
-      (leb→le _ _ (tested (λ s. leb (s .start) (s .end)) (tt, (tt, (tt, (tt, (tt, (tt, (tt, (tt, tt))))))))), leb→le _ _ (tested (λ s. leb (s .end) 768) (tt, (tt, (tt, (tt, (tt, (tt, (tt, (tt, tt))))))))))
 
   -- no text field has more than 140 characters
   pub text-short : tText k .end - tText k .start ≤ 140

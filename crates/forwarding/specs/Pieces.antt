@@ -56,7 +56,7 @@ module _ (page : ℕ) (file : List ℕ) (a b : ℕ) where
         ∙ ap (λ (k : ℕ). notes (rep page) text a (between a b file) ++ notes (rep page) text k (between b c file)) next
 
 -- the text places of a record that stands at a
-text-q : (i : ℕ) → i < 256 → text i ≡ lies qTexts i
+pub text-q : (i : ℕ) → i < 256 → text i ≡ lies qTexts i
 unfolding text
 text-q i h = rw (lt-ltb i 256 h)
 

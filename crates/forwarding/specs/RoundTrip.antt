@@ -11,6 +11,7 @@ use borrow.Author.Tests.{eq-eqb, ne-eqb, eqb-true, ltb-true, not-true, not-false
 use lib.Dec.{eqb, ltb, lit<, eqb·suc-zero}
 use lib.ListN.{length, getD}
 use Rattle.laws.specs.Choice.{either}
+use Rattle.laws.specs.Choice.{both}
 use Rattle.charset.specs.Table.{unchanged, exceptions, look, rep, rep-rep}
 use Rattle.forwarding.specs.Text.{textAt}
 use Rattle.forwarding.specs.Forwarded.{fwd, differs, notes, forwarded, notesOf}
@@ -20,10 +21,6 @@ use Rattle.forwarding.specs.Merge.{merged, becomes, accepts, originalOf,
 -- every element is a byte
 abbrev pub Bytes : List ℕ → Type 0
 Bytes s = (k : ℕ) → getD s k 0 < 256
-
-pub both : (a b : Bool) → a && b ≡ true → (a ≡ true) × (b ≡ true)
-both true b e = (refl, e)
-both false b e = let z : false ≡ true = e in (z, cc)
 
 pub merged-none : (i : ℕ) (g : List ℕ) → merged i g [] ≡ g
 merged-none i [] = refl
@@ -245,9 +242,6 @@ module _ (page : ℕ) where
   unfolding forwarded notesOf originalOf
   original-back f h = merged-back (rep page) (textAt (length f)) 0 f h
 
-  pub one-file : (f f' : List ℕ) → Bytes f → Bytes f' → forwarded page f ≡ forwarded page f' → notesOf page f ≡ notesOf page f' → f ≡ f'
-  one-file f f' h h' p q = sym (original-back f h) ∙ ap₂ originalOf p q ∙ original-back f' h'
-
   pub pair-yielded : (f : List ℕ) → Bytes f → isPair page (forwarded page f) (notesOf page f) ≡ true
   unfolding forwarded notesOf isPair
   pair-yielded f h = rw fwd-length (accepts-yielded (rep page) (textAt (length f)) 0 f h)
@@ -258,10 +252,6 @@ module _ (page : ℕ) where
   pair-yields g ns e =
       let y = accepted-yields (rep page) (textAt (length g)) 0 g ns e in
       (rw merged-length (y .forwards), rw merged-length (y .notes-are))
-
-pub original-length : (g ns : List ℕ) → length (originalOf g ns) ≡ length g
-unfolding originalOf
-original-length g ns = merged-length 0 g ns
 
 pub original-bytes : (g ns : List ℕ) → Bytes g → Bytes (originalOf g ns)
 unfolding originalOf

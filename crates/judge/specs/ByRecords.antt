@@ -11,21 +11,20 @@ use native.Mathlib.Omega.{arith}
 use borrow.Author.Tests.{eqb-true, eqb-false, leb-true, leb-false, ne-eqb, le-leb, lt-leb}
 use lib.Dec.{eqb, leb}
 use lib.ListN.{length, take, drop, getD, length-append}
-use lib.Seq.{take-at, drop-at, take-all, drop-drop, drop-append-le}
+use lib.Seq.{take-at, drop-at, take-all, drop-drop}
 use Rattle.rules.specs.Faults.{qFault, zFault}
 use Rattle.payments.specs.Rules.{keyOf}
 use Rattle.payments.specs.Faults.{tFault}
 use Rattle.records.specs.Places.{recordAt}
-use Rattle.structure.specs.Slots.{slotAt, widthAt, place-is, later-width}
+use Rattle.structure.specs.Slots.{slotAt, place-is, later-width}
 use Rattle.structure.specs.Walk.{letterOf, faultIn, structureOf}
 use Rattle.structure.specs.Whole.{whole, letter-q, letter-t}
-use Rattle.structure.specs.Fits.{Passed, Due, Fit, fits, fit-found}
+use Rattle.structure.specs.Fits.{Passed, Fit, fits, fit-found}
 use Rattle.structure.specs.declared.Shape.the-variants.{Fits}
 use Rattle.judge.specs.Content.{faultOf, ruleFrom, ruleEnd, contentOf, rule-real}
-use Rattle.judge.specs.Meaning.{Holds, sound, complete}
-use Rattle.judge.specs.Sums.{euros, total, euroSum, centSum}
+use Rattle.judge.specs.Meaning.{sound, complete}
+use Rattle.judge.specs.Sums.{euroSum}
 use Rattle.judge.specs.Verdict.{refused, unless, verdictOf}
-use Rattle.judge.specs.Verdict.{sound as soundWith}
 use Rattle.judge.specs.declared.Verdict.{Verdict}
 use Rattle.judge.specs.declared.Broken.{Broken}
 use Rattle.judge.specs.Told.{sound-fits, told-fits}

@@ -3,7 +3,7 @@
 use Prim.Native.Nat.{ℕ, _+_, _<_}
 use mathlib.Core.Bool.{Bool, true, false, cond}
 use mathlib.Core.List.{List}
-use lib.Dec.{eqb, leb, ltb, lit<}
+use lib.Dec.{eqb, leb, lit<}
 use Rattle.structure.specs.Slots.{slotAt}
 use Rattle.payments.specs.Rules.{keyOf}
 use Rattle.rules.specs.Faults.{qFault, zFault}

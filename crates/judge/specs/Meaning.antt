@@ -1,10 +1,10 @@
 -- What `firstBroken` means: 0 exactly where every rule holds, and otherwise the first broken rule, by record and then by rule.
-use Prim.Native.Nat.{ℕ, _+_, _≤_, _<_}
+use Prim.Native.Nat.{ℕ, _≤_, _<_}
 use mathlib.Core.Path.{_≡_, refl, sym, ap, _∙_}
 use mathlib.Core.Bool.{Bool, true, false, not}
 use mathlib.Core.Logic.{inl, inr}
 use native.Mathlib.Omega.{arith}
-use borrow.Author.Tests.{eqb-true, eqb-false, not-true, not-false, eq-eqb}
+use borrow.Author.Tests.{eqb-true, eqb-false, not-true, not-false}
 use lib.Dec.{eqb}
 use Rattle.laws.specs.Scan.{Means, means}
 use Rattle.judge.specs.declared.Broken.{Broken}

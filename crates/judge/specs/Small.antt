@@ -1,10 +1,10 @@
 -- A verdict's number is at most 50 and its record at most 10,000, so that record × 100 + number tells both.
-use Prim.Native.Nat.{ℕ, _+_, _≤_, _<_}
+use Prim.Native.Nat.{ℕ, _+_, _≤_}
 use Prim.Native.Char.{code}
-use mathlib.Core.Path.{_≡_, refl, sym, ap, subst, _∙_}
+use mathlib.Core.Path.{_≡_, refl}
 use mathlib.Core.Bool.{Bool, true, false, _&&_, cond}
 use mathlib.Core.List.{List}
-use mathlib.Core.Logic.{_⊎_, inl, inr}
+use mathlib.Core.Logic.{inl, inr}
 use native.Mathlib.Omega.{arith}
 use borrow.Author.Tests.{eqb-false, leb-true, leb-false}
 use lib.Dec.{eqb, leb, ltb, lit≤}
@@ -14,15 +14,14 @@ use Rattle.fields.specs.Class.{same}
 use Rattle.fields.specs.Lists.{isTaken}
 use Rattle.structure.specs.Slots.{slotAt}
 use Rattle.structure.specs.Walk.{letterOf, digitsOf, digitsFor, lengthFor, allowed, faultIn, structureOf}
-use Rattle.structure.specs.Fits.{Due, Stuck, Tells, tells, passed-room}
+use Rattle.structure.specs.Fits.{Due, Tells, tells, passed-room}
 use Rattle.structure.specs.declared.Shape.{Shape}
 use Rattle.structure.specs.declared.Shape.the-variants.{Fits, Refused}
 use Rattle.judge.specs.First.{firstBroken}
 use Rattle.judge.specs.Content.{faultOf, ruleFrom, ruleEnd, contentOf, rule-real}
 use Rattle.judge.specs.Meaning.{broken}
 use Rattle.judge.specs.Sums.{euroSum, centSum, fileNumber}
-use Rattle.judge.specs.Verdict.{refused, sound, unless, verdictBy, verdictOf, orTaken, judgeOf}
-use Rattle.judge.specs.declared.Broken.{Broken}
+use Rattle.judge.specs.Verdict.{refused, sound, verdictBy, verdictOf, judgeOf}
 use Rattle.judge.specs.declared.Verdict.{Verdict}
 
 abbrev pub Small : Verdict → Type 0

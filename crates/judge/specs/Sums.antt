@@ -2,7 +2,7 @@
 -- into euros".
 -- And a file's number, "the 18 digits of Q4, Q6, Q7 as one whole number".
 use Prim.Native.Nat.{ℕ, zero, suc, _+_, _*_, _^_, _≤_, _<_}
-use mathlib.Core.Path.{_≡_, refl, sym, ap, _∙_}
+use mathlib.Core.Path.{_≡_, sym, _∙_}
 use mathlib.Core.List.{List, [], _∷_, _++_}
 use native.Mathlib.Nat.{pow-suc, pow-zero}
 use native.Mathlib.Numerals.{add-one}

@@ -1,11 +1,10 @@
 -- The verdict by what the walk, the sums and the rules found.
-use Prim.Native.Nat.{ℕ, _+_, _*_, _≤_, _<_}
-use mathlib.Core.Path.{_≡_, refl, sym, ap, ap₂, subst, _∙_}
-use mathlib.Core.Bool.{Bool, true, false, cond}
+use Prim.Native.Nat.{ℕ}
+use mathlib.Core.Path.{_≡_, refl, sym, ap, ap₂, _∙_}
+use mathlib.Core.Bool.{Bool, true, false}
 use mathlib.Core.List.{List}
-use mathlib.Core.Logic.{_⊎_, inl, inr}
+use mathlib.Core.Logic.{inl, inr}
 use native.Mathlib.Omega.{arith}
-use lib.Dec.{eqb}
 use Rattle.laws.specs.Choice.{on-eq, off-eq, on-call, off-call}
 use Rattle.fields.specs.Lists.{isTaken}
 use Rattle.structure.specs.Slots.{slotAt}

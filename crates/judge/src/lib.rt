@@ -5,7 +5,7 @@ use records::T;
 use records::TField;
 use structure::Shape;
 ghost use mathlib.Core.Path.{_≡_};
-ghost use Prim.Native.Nat.{ℕ, _+_, _*_, _≤_, _<_};
+ghost use Prim.Native.Nat.{_+_, _*_, _≤_, _<_};
 ghost use lib.ListN.{length};
 ghost use Rattle.judge.specs.Content.{faultOf, ruleFrom, ruleEnd, contentOf};
 ghost use Rattle.judge.specs.Sums.{euros, cents, euroSum, centSum, fileNumber};

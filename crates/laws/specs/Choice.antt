@@ -2,7 +2,7 @@
 -- Each law says: with the test decided as it was, what equals the chosen side equals the choice. `search picks` finds
 -- the tests among what is known at a place of the code.
 use Prim.Native.Nat.{ℕ, _<_, _≤_}
-use mathlib.Core.Path.{_≡_, sym, ap, ap₂, subst, _∙_}
+use mathlib.Core.Path.{_≡_, refl, sym, ap, ap₂, subst, _∙_}
 use mathlib.Core.Bool.{Bool, true, false, cond, not, _&&_, _||_}
 use lib.Dec.{ltb, leb, eqb}
 use borrow.Author.Tests.{lt-ltb, le-ltb, le-leb, lt-leb, eq-eqb, ne-eqb, not-true, not-false}
@@ -71,6 +71,11 @@ or-on b e t = ap (λ (u : Bool). u || b) (sym e ∙ t)
 
 pub and-off : {a r : Bool} (b : Bool) → r ≡ a → r ≡ false → a && b ≡ false
 and-off b e t = ap (λ (u : Bool). u && b) (sym e ∙ t)
+
+-- both tests of a conjunction
+pub both : (a b : Bool) → a && b ≡ true → (a ≡ true) × (b ≡ true)
+both true b e = (refl, e)
+both false b e = let z : false ≡ true = e in (z, cc)
 
 -- what holds of both sides holds of the choice
 pub either : {A : Type 0} (P : A → Type 0) (b : Bool) (x y : A) → P x → P y → P (cond b x y)

@@ -109,31 +109,3 @@ module _ {A : Type 0} (P : ℕ → Bool) (f : ℕ → A) (z : A) where
   pub means : (i e : ℕ) → Means P f z i e (first P f z i e)
   unfolding run
   means i e = means-from (e - i) i e refl
-
--- a run in two parts
-module _ {A : Type 0} (g : ℕ → A → A) (z : A) where
-  from-split : (a b i : ℕ) → from g z (a + b) i ≡ from g (from g z b (i + a)) a i
-  unfolding from
-  from-split zero b i =
-      let p : 0 + b ≡ b = omega arith in
-      let q : i + 0 ≡ i = omega arith in
-      ap (λ (m : ℕ). from g z m i) p ∙ sym (ap (from g z b) q)
-  from-split (suc a) b i =
-      let p : suc a + b ≡ suc (a + b) = omega arith in
-      let q : i + suc a ≡ i + 1 + a = omega arith in
-      ap (λ (m : ℕ). from g z m i) p ∙ ap (g i) (from-split a b (i + 1))
-      ∙ sym (ap (λ (m : ℕ). from g (from g z b m) (suc a) i) q)
-
-  pub run-split : (i k e : ℕ) → i ≤ k → k ≤ e → run g z i e ≡ run g (run g z k e) i k
-  unfolding run
-  run-split i k e h l =
-      let p : e - i ≡ (k - i) + (e - k) = omega arith in
-      let q : i + (k - i) ≡ k = omega arith in
-      ap (λ (m : ℕ). from g z m i) p ∙ from-split (k - i) (e - k) i
-      ∙ ap (λ (m : ℕ). from g (from g z (e - k) m) (k - i) i) q
-
-  -- one more place at the end
-  pub run-last : (i k : ℕ) → i ≤ k → run g z i (k + 1) ≡ run g (g k z) i k
-  run-last i k h =
-      run-split i k (k + 1) h (omega arith)
-      ∙ ap (λ (r : A). run g r i k) (run-turn g z k (k + 1) (omega arith) ∙ ap (g k) (run-end g z (k + 1) (k + 1) (omega arith)))

@@ -1,7 +1,7 @@
 -- A loop over a list from the front: what is left at place i is the element there and what is left at i + 1, or nothing.
 -- A loop that carries a value along is `fold`; its invariant is that folding what is left gives what folding all gives.
-use Prim.Native.Nat.{ℕ, suc, _+_, _-_, _<_, _≤_}
-use mathlib.Core.Path.{_≡_, refl, sym, ap, _∙_}
+use Prim.Native.Nat.{ℕ, suc, _+_, _<_, _≤_}
+use mathlib.Core.Path.{_≡_, sym, ap, _∙_}
 use mathlib.Core.List.{List, [], _∷_, _++_, map, append-nil}
 use native.Mathlib.Numerals.{add-one}
 use native.Mathlib.Omega.{arith}

@@ -1,14 +1,14 @@
 -- A text field as the code finds it: s is its place, and field its bytes. It lies in its record, and is short.
-use Prim.Native.Nat.{ℕ, _+_, _-_, _≤_, _<_}
+use Prim.Native.Nat.{ℕ, _+_, _≤_, _<_}
 use mathlib.Core.Path.{_≡_, refl, ap, _∙_}
 use mathlib.Core.List.{List}
 use native.Mathlib.Omega.{arith}
 use lib.ListN.{length}
 use Rattle.records.specs.Places.{part, qText, tText}
-use Rattle.records.specs.Inside.{Inside, inside, q-inside, part-le}
+use Rattle.records.specs.Inside.{Inside, inside, q-inside, t-text-inside, part-le}
 use Rattle.records.specs.declared.Span.{Span}
 use Rattle.records.specs.declared.QField.the-variants.{Q5}
-use Rattle.forwarding.specs.Numbered.{text-inside, text-short}
+use Rattle.forwarding.specs.Numbered.{text-short}
 
 pub same-part : {s place : Span} → s ≡ place → (rec : List ℕ) {field : List ℕ} → field ≡ part s rec → field ≡ part place rec
 same-part e rec bytes = bytes ∙ ap (λ (s : Span). part s rec) e
@@ -26,7 +26,7 @@ module _ {s : Span} (at : s ≡ qText 1) where
 
 module _ (k : ℕ) (low : 2 ≤ k) (high : k < 10) {s : Span} (at : s ≡ tText k) where
   pub t-in : (rec : List ℕ) → length rec ≡ 768 → Inside (length rec) s
-  t-in rec l = inside at (text-inside k low high) l
+  t-in rec l = inside at (t-text-inside k) l
 
   module _ (rec : List ℕ) {field : List ℕ} (bytes : field ≡ part s rec) where
     pub t-short : length field ≤ 140
@@ -34,5 +34,5 @@ module _ (k : ℕ) (low : 2 ≤ k) (high : k < 10) {s : Span} (at : s ≡ tText 
 
     pub t-ends : s .start + length field ≤ 768
     t-ends =
-        let i = inside at (text-inside k low high) refl in
+        let i = inside at (t-text-inside k) refl in
         omega (arith, i .0, i .1, ap length bytes, part-le s rec)

@@ -3,8 +3,7 @@ use Prim.Native.Nat.{ℕ, _-_, _≤_}
 use mathlib.Core.Path.{_≡_, ap, _∙_}
 use mathlib.Core.List.{List}
 use native.Mathlib.Omega.{arith}
-use mathlib.Core.Bool.{_&&_}
-use lib.Dec.{leb, leb→le, T}
+use lib.Dec.{eqb, leb, leb→le, lit≤, T}
 use lib.ListN.{length, drop, length-take, length-drop}
 use Rattle.records.specs.declared.Span.{Span}
 use Rattle.records.specs.declared.QField.{QField}
@@ -13,7 +12,8 @@ use Rattle.records.specs.declared.TField.{TField}
 use Rattle.records.specs.declared.TField.the-variants.{T3, T4a, T4b, T5, T6, T7a, T7b, T8, T9a, T9b, T10a, T10b, T11, T12, T13, T14a, T14b, T15, T16, T17, T18, T19, T20, T21, T22, T23, T24, T25, T26, T27}
 use Rattle.records.specs.declared.ZField.{ZField}
 use Rattle.records.specs.declared.ZField.the-variants.{Z3, Z4, Z5}
-use Rattle.records.specs.Places.{qPlace, tPlace, zPlace, part}
+use Rattle.records.specs.Places.{qPlace, tPlace, zPlace, part, qText, tText}
+use Rattle.laws.specs.Choice.{either}
 
 abbrev pub Inside : ℕ → Span → Type 0
 Inside n s = (s .start ≤ s .end) × (s .end ≤ n)
@@ -83,6 +83,22 @@ pub held : {n : ℕ} {xs : List ℕ} (s : Span) (rec : List ℕ) → xs ≡ part
 unfolding part
 held s rec e h l =
     record { bytes = e; long = ap length e ∙ simp (length-take, length-drop) (omega (arith, h .0, h .1)) }
+
+-- every text field lies in its record; a number that is none is nowhere
+pub q-text-inside : (f : ℕ) → Inside 256 (qText f)
+q-text-inside f = either (Inside 256) (eqb f 1) _ _ (lit≤ tt, lit≤ tt) (lit≤ tt, lit≤ tt)
+
+pub t-text-inside : (f : ℕ) → Inside 768 (tText f)
+t-text-inside f =
+    let in-record = either (Inside 768) in
+    in-record (eqb f 2) _ _ (lit≤ tt, lit≤ tt)
+    (in-record (eqb f 3) _ _ (lit≤ tt, lit≤ tt)
+    (in-record (eqb f 4) _ _ (lit≤ tt, lit≤ tt)
+    (in-record (eqb f 5) _ _ (lit≤ tt, lit≤ tt)
+    (in-record (eqb f 6) _ _ (lit≤ tt, lit≤ tt)
+    (in-record (eqb f 7) _ _ (lit≤ tt, lit≤ tt)
+    (in-record (eqb f 8) _ _ (lit≤ tt, lit≤ tt)
+    (in-record (eqb f 9) _ _ (lit≤ tt, lit≤ tt) (lit≤ tt, lit≤ tt))))))))
 
 -- a part is never longer than its place
 pub part-le : (s : Span) (rec : List ℕ) → length (part s rec) ≤ s .end - s .start

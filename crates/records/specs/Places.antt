@@ -3,7 +3,7 @@
 -- Laws: the fields of each kind follow one another without gap or overlap from 5 to the record's end, and the four lines
 -- of a field of 140 bytes do so in it.
 use Prim.Native.Nat.{ℕ, _+_, _*_, _-_}
-use mathlib.Core.Bool.{Bool, true, false, _&&_, cond}
+use mathlib.Core.Bool.{Bool, _&&_, cond}
 use mathlib.Core.List.{List, [], _∷_}
 use lib.Dec.{eqb, leb, T}
 use lib.ListN.{take, drop}

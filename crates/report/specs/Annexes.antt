@@ -1,7 +1,6 @@
 -- Document 01: "The program's lists are Annex II (transfers) and Annex I (cheques) of source document 000", in document
 -- order: 156 and 22 countries.
 use Prim.Native.Nat.{ℕ}
-use mathlib.Core.Path.{_≡_, refl}
 use mathlib.Core.Bool.{_&&_}
 use mathlib.Core.List.{List, _++_}
 use lib.Dec.{eqb, T}

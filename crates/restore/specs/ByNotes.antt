@@ -10,10 +10,10 @@ use borrow.Author.Tests.{eqb-true, eqb-false, eq-eqb, le-leb, lt-leb, leb-true, 
 use lib.Dec.{eqb, leb, ltb}
 use lib.ListN.{length, getD, drop, set, length-set, drop-of-length-le}
 use lib.Seq.{drop-cons, drop-set-lt, getD-set-same, getD-set-other, set-append-left}
+use Rattle.laws.specs.Choice.{both}
 use Rattle.laws.specs.Steps.{fold, next}
 use Rattle.forwarding.specs.Forwarded.{differs}
 use Rattle.forwarding.specs.Merge.{merged, becomes, accepts}
-use Rattle.forwarding.specs.RoundTrip.{both}
 
 -- a note about place `from` or a later one of the bytes g: its byte is changed there, and becomes the byte that g has
 abbrev pub noteFits : (ℕ → ℕ) → (ℕ → Bool) → List ℕ → ℕ → ℕ → Bool

@@ -7,13 +7,13 @@ use native.Mathlib.Omega.{arith}
 use borrow.Author.Tests.{lt-ltb, le-ltb, le-leb, lt-leb, ltb-true, not-true, not-false}
 use lib.Dec.{eqb, leb, ltb}
 use lib.ListN.{length, getD, drop}
+use Rattle.laws.specs.Choice.{both}
 use Rattle.laws.specs.Scan.{run, run-turn, run-end}
 use Rattle.laws.specs.Steps.{next}
 use Rattle.charset.specs.Table.{rep}
 use Rattle.records.specs.Places.{qText}
 use Rattle.records.specs.declared.Span.{Span}
 use Rattle.forwarding.specs.Text.{qTexts, tTexts, lies, text, textAt}
-use Rattle.forwarding.specs.RoundTrip.{both}
 use Rattle.restore.specs.ByNotes.{noteFits, notesFit}
 
 -- some number from i up to below e passes the test P

@@ -11,13 +11,13 @@ use borrow.Author.Tests.{eq-eqb, eqb-true, eqb-false, ltb-false}
 use lib.Dec.{eqb, ltb}
 use lib.ListN.{length, take, drop}
 use lib.Seq.{take-at}
-use Rattle.laws.specs.Choice.{on, on-eq, off-eq, off-lt}
+use Rattle.laws.specs.Choice.{on, on-eq, off-eq, off-lt, both}
 use Rattle.judge.specs.Verdict.{verdictOf}
 use Rattle.judge.specs.declared.Verdict.{Verdict}
 use Rattle.forwarding.specs.Forwarded.{forwarded, notesOf}
 use Rattle.forwarding.specs.Merge.{originalOf, isPair}
 use Rattle.forwarding.specs.Put.{put}
-use Rattle.forwarding.specs.RoundTrip.{Bytes, both, forwarded-length, forwarded-forwarded, forwarded-notes, forwarded-bytes, original-back, pair-yielded, pair-yields, original-bytes}
+use Rattle.forwarding.specs.RoundTrip.{Bytes, forwarded-length, forwarded-forwarded, forwarded-notes, forwarded-bytes, original-back, pair-yielded, pair-yields, original-bytes}
 use Rattle.prepare.specs.Prepared.{refused, done, sendOf, prepareOf, PreparedAs}
 use Rattle.prepare.specs.declared.Prepared.{Prepared}
 use Rattle.alike.specs.Files.{judged-alike}

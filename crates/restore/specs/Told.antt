@@ -8,7 +8,7 @@ use borrow.Author.Tests.{eq-eqb, ne-eqb}
 use lib.Dec.{eqb}
 use lib.ListN.{length, take, drop, length-append}
 use lib.Seq.{take-length}
-use Rattle.laws.specs.Choice.{on, off, off-eq, on-lt, off-lt}
+use Rattle.laws.specs.Choice.{on, off, off-eq, on-lt, off-lt, both}
 use Rattle.charset.specs.Table.{rep, rep-rep}
 use Rattle.judge.specs.Verdict.{verdictOf}
 use Rattle.judge.specs.declared.Verdict.{Verdict}
@@ -16,7 +16,7 @@ use Rattle.forwarding.specs.Text.{textAt}
 use Rattle.forwarding.specs.Forwarded.{notesOf}
 use Rattle.forwarding.specs.Merge.{originalOf, isPair}
 use Rattle.forwarding.specs.Put.{put}
-use Rattle.forwarding.specs.RoundTrip.{both, pair-alone}
+use Rattle.forwarding.specs.RoundTrip.{pair-alone}
 use Rattle.restore.specs.ByNotes.{notesFit, putNotes, inside, accepts-by-notes, merged-by-notes, notes-inside, inside-more, notes-in-front, notes-length}
 use Rattle.restore.specs.Restored.{answer, isYielded, restoreOf, RestoredAs}
 

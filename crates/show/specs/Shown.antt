@@ -1,16 +1,16 @@
 -- Document 01, "Show a field": from a file, a record number and a field number, the very part of the caller's bytes.
 -- "The part is empty exactly when the walk refuses, the record doesn't exist, or that record has no such field."
-use Prim.Native.Nat.{ℕ, _+_, _*_, _-_, _≤_, _<_}
+use Prim.Native.Nat.{ℕ, _+_, _≤_, _<_}
 use mathlib.Core.Path.{_≡_, refl, sym, ap, ap₂, _∙_}
 use mathlib.Core.Bool.{Bool, true, false, cond}
 use mathlib.Core.List.{List}
 use native.Mathlib.Omega.{arith}
-use borrow.Author.Tests.{eqb-true, eqb-false, leb-true}
-use lib.Dec.{eqb, leb, lit≤}
+use borrow.Author.Tests.{eqb-false, leb-true}
+use lib.Dec.{eqb, leb}
 use lib.ListN.{length}
 use Rattle.laws.specs.Choice.{either, on-eq, off-eq, on-le, off-le}
-use Rattle.records.specs.Places.{recordAt, part, nowhere, qText, tText, qPlace, tPlace}
-use Rattle.records.specs.Inside.{Inside}
+use Rattle.records.specs.Places.{recordAt, part, nowhere, qText, tText}
+use Rattle.records.specs.Inside.{Inside, q-text-inside, t-text-inside}
 use Rattle.records.specs.declared.Span.{Span}
 use Rattle.structure.specs.Slots.{place-is}
 use Rattle.structure.specs.Walk.{structureOf}
@@ -33,26 +33,10 @@ shownAt file k f = shownBy (structureOf file) k f
 unfoldable pub shownOf : List ℕ → ℕ → ℕ → List ℕ
 shownOf file k f = part (shownAt file k f) file
 
--- every text field lies in its record
-q-text-inside : (f : ℕ) → Inside 256 (qText f)
-q-text-inside f = either (Inside 256) (eqb f 1) _ _ (lit≤ tt, lit≤ tt) (lit≤ tt, lit≤ tt)
-
-t-text-inside : (f : ℕ) → Inside 768 (tText f)
-t-text-inside f =
-    let in-record = either (Inside 768) in
-    in-record (eqb f 2) _ _ (lit≤ tt, lit≤ tt)
-    (in-record (eqb f 3) _ _ (lit≤ tt, lit≤ tt)
-    (in-record (eqb f 4) _ _ (lit≤ tt, lit≤ tt)
-    (in-record (eqb f 5) _ _ (lit≤ tt, lit≤ tt)
-    (in-record (eqb f 6) _ _ (lit≤ tt, lit≤ tt)
-    (in-record (eqb f 7) _ _ (lit≤ tt, lit≤ tt)
-    (in-record (eqb f 8) _ _ (lit≤ tt, lit≤ tt)
-    (in-record (eqb f 9) _ _ (lit≤ tt, lit≤ tt) (lit≤ tt, lit≤ tt))))))))
-
 nowhere-inside : (n : ℕ) → Inside n nowhere
 nowhere-inside n = (omega arith, omega arith)
 
--- and in its file
+-- every text field lies in the file
 pub shown-inside : (file : List ℕ) (k f : ℕ) → Inside (length file) (shownAt file k f)
 unfolding shownAt
 shown-inside file k f = go (structureOf file) (λ n e. fits file n e)

@@ -5,7 +5,6 @@ use records::T;
 use structure::Shape;
 ghost use mathlib.Core.Path.{_≡_};
 ghost use Prim.Native.Nat.{_≤_};
-ghost use Rattle.records.specs.Places.{nowhere};
 ghost use Rattle.show.specs.Shown.{moved, shownAt, shownOf};
 
 // A place in a record that starts at an offset of the file; an empty place stays empty.

@@ -1,9 +1,9 @@
 -- Document 01, "Walk, at each record", in its order: fewer than 5 bytes left 2, letter not allowed here 4, length digits
 -- wrong for the letter 3, fewer bytes left than the length 2, bytes after Z 5. Before anything else, a file longer than
 -- 7,679,744 bytes is 1 at record 0.
-use Prim.Native.Nat.{ℕ, _+_, _*_, _-_, _≤_, _<_}
+use Prim.Native.Nat.{ℕ, _-_}
 use Prim.Native.Char.{code}
-use mathlib.Core.Bool.{Bool, true, false, _&&_, _||_, not, cond}
+use mathlib.Core.Bool.{Bool, _&&_, _||_, not, cond}
 use mathlib.Core.List.{List}
 use lib.Dec.{eqb, leb, ltb}
 use lib.ListN.{length, getD, take, drop}

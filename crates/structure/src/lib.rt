@@ -3,7 +3,7 @@ use records::Q;
 use records::T;
 use records::Z;
 ghost use mathlib.Core.Path.{_≡_};
-ghost use Prim.Native.Nat.{ℕ, _+_, _*_, _-_, _≤_, _<_};
+ghost use Prim.Native.Nat.{_+_, _-_, _≤_, _<_};
 ghost use lib.ListN.{length};
 ghost use Rattle.fields.specs.Class.{same};
 ghost use Rattle.records.specs.Places.{recordAt};

@@ -1,4 +1,4 @@
-use Rattle.laws.specs.Choice.{picks, on, off, on-eq, off-eq}
+use Rattle.laws.specs.Choice.{picks, on, off, off-eq}
 use mathlib.Core.Path.{refl}
 use Rattle.fields.proofs.days.Statement.{statement}
 use Rattle.fields.proofs.days.Tie as tie

@@ -2,13 +2,12 @@ use borrow.Author.Needs.{needs}
 use borrow.Author.Tests.{leb-true}
 use native.Mathlib.Omega.{arith}
 use mathlib.Core.Path.{refl}
-use Rattle.laws.specs.Choice.{on, off}
-use Rattle.fields.specs.Laws.{and-left}
+use Rattle.laws.specs.Choice.{on, off, both}
 use Rattle.fields.proofs.digit.Statement.{statement}
 use Rattle.fields.proofs.digit.Tie as tie
 
 sub-result : tie.Need-sub-result
-sub-result c = omega (arith, leb-true 48 (c .before .args .b) (and-left _ _ (c .if1 .taken)))
+sub-result c = omega (arith, leb-true 48 (c .before .args .b) (both _ _ (c .if1 .taken) .0))
 
 returns : tie.Need-returns
 returns c = on _ (c .if1 .taken) refl

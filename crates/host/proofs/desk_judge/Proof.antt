@@ -1,6 +1,6 @@
 use borrow.Author.Needs.{needs}
 use native.Mathlib.Omega.{arith}
-use mathlib.Core.Path.{_≡_, sym, ap, subst}
+use mathlib.Core.Path.{sym, ap, subst}
 use Rattle.judge.specs.Small.{Small, judge-small}
 use Rattle.host.specs.Answers.{answerOf}
 use Rattle.host.proofs.desk_judge.Statement.{statement}

@@ -1,6 +1,6 @@
 use borrow.Author.Needs.{needs}
 use native.Mathlib.Omega.{arith}
-use mathlib.Core.Path.{_≡_, sym, ap, subst}
+use mathlib.Core.Path.{sym, ap, subst}
 use lib.ListN.{length}
 use Rattle.records.specs.Inside.{Inside}
 use Rattle.show.specs.Shown.{shown-inside}

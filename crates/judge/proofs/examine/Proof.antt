@@ -1,6 +1,5 @@
 -- The walk's case decides; in a file that fits, the first broken rule does.
 use borrow.Author.Needs.{needs}
-use native.Mathlib.Omega.{arith}
 use mathlib.Core.Path.{sym, _∙_}
 use Rattle.structure.specs.Fits.{fits}
 use Rattle.judge.specs.Told.{told-refused, told-sound, told-broken}

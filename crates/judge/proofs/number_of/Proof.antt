@@ -1,9 +1,8 @@
 use borrow.Author.Needs.{needs}
 use native.Mathlib.Omega.{arith}
-use Prim.Native.Nat.{ℕ, _*_, _+_, _<_}
-use mathlib.Core.Path.{_≡_, ap, ap₂, _∙_, sym}
-use mathlib.Core.List.{List, _++_}
-use lib.ListN.{length}
+use Prim.Native.Nat.{_*_, _+_, _<_}
+use mathlib.Core.Path.{_≡_, ap, ap₂, _∙_}
+use mathlib.Core.List.{_++_}
 use Rattle.fields.specs.Number.{dec}
 use Rattle.fields.specs.Laws.{dec-lt}
 use Rattle.judge.specs.Sums.{fileNumber, number-is}

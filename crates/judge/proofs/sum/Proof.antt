@@ -1,11 +1,10 @@
 -- The sums so far are those of the first k payments.
 use borrow.Author.Needs.{needs}
 use native.Mathlib.Omega.{arith}
-use Prim.Native.Nat.{ℕ, _+_, _*_, _-_, _≤_, _<_}
+use Prim.Native.Nat.{_+_, _-_, _≤_}
 use mathlib.Core.Path.{_≡_, refl, sym, ap, ap₂, _∙_}
-use mathlib.Core.List.{List}
 use lib.ListN.{length}
-use Rattle.structure.specs.Slots.{slotAt, t-long, place-in}
+use Rattle.structure.specs.Slots.{t-long, place-in}
 use Rattle.judge.specs.Sums.{euros, cents, euroSum, centSum, euros-lt, cents-lt, euro-more, cent-more, euro-le, cent-le}
 use Rattle.judge.proofs.sum.Statement.{statement}
 use Rattle.judge.proofs.sum.Tie as tie

@@ -1,15 +1,14 @@
 -- The records before k were passed; what the search from k on tells is what the whole search tells.
 use borrow.Author.Needs.{needs}
 use native.Mathlib.Omega.{arith}
-use Prim.Native.Nat.{ℕ, _+_, _*_, _-_, _≤_, _<_}
-use Prim.Native.Char.{code}
-use mathlib.Core.Path.{_≡_, refl, sym, ap, _∙_}
+use Prim.Native.Nat.{ℕ, _*_, _-_, _≤_}
+use mathlib.Core.Path.{_≡_, refl, sym, _∙_}
 use mathlib.Core.List.{List}
 use lib.ListN.{length, getD}
 use Rattle.laws.specs.Choice.{on-lt, off-lt}
 use Rattle.laws.specs.Scan.{first, goes, leaves}
-use Rattle.structure.specs.Slots.{place-is, slotAt}
-use Rattle.structure.specs.Walk.{stops, told, faultIn, structureOf}
+use Rattle.structure.specs.Slots.{place-is}
+use Rattle.structure.specs.Walk.{stops, told, structureOf}
 use Rattle.structure.specs.Whole.{whole, length-low, z-later}
 use Rattle.structure.specs.Fits.{Passed, passed-room}
 use Rattle.structure.specs.Turns.{passed, hands-on, stops-broken, stops-z}

@@ -1,6 +1,5 @@
 use borrow.Author.Needs.{needs}
 use native.Mathlib.Omega.{arith}
-use Prim.Native.Nat.{_-_}
 use mathlib.Core.Path.{refl}
 use Rattle.forwarding.specs.Between.{between-long}
 use Rattle.prepare.specs.Placing.{q-same, place-z}
