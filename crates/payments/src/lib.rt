@@ -16,6 +16,7 @@ ghost use Rattle.payments.specs.Rules.{rule20, rule21, rule22, rule23, r
 ghost use Rattle.payments.specs.Rules.{rule29, rule30, rule31, rule32, rule33, rule34, rule35};
 ghost use Rattle.payments.specs.Faults.{tFault};
 
+// What the later fields say where this one is right; else its offset.
 fn at(right: bool, f: TField, rest: usize) -> usize
     ensures { λ r. ⌜ r ≡ cond right rest (tPlace f .start) ⌝ }
 {
@@ -26,6 +27,7 @@ fn at(right: bool, f: TField, rest: usize) -> usize
     s.start
 }
 
+// Tests of a whole field.
 fn all(c: Class, rec: &[u8], f: TField) -> bool
     requires { ⌜ length (now rec) ≡ 768 ⌝ }
     ensures { λ r. ⌜ r ≡ allOf c (inT f (now (rec .entry))) ⌝ }

@@ -1,6 +1,7 @@
 // Restore: the original of a forwarded file and its notes.
 use records::Q;
 use records::T;
+use records::Z;
 ghost use mathlib.Core.Path.{_≡_};
 ghost use mathlib.Core.Bool.{true};
 ghost use Prim.Native.Nat.{_≤_, _<_};
@@ -39,16 +40,16 @@ fn is_text(n: usize, i: usize) -> bool
     requires { ⌜ i < 16777216 ⌝ }
     ensures { λ r. ⌜ r ≡ textAt n i ⌝ }
 {
-    if n <= i + 256 {
+    if n <= i + Z::LENGTH {
         return false;
     }
-    if i < 256 {
+    if i < Q::LENGTH {
         let s = Q::text(1);
         let start = s.start;
         let end = s.end;
         return (start <= i) & (i < end);
     }
-    in_text((i - 256) % 768)
+    in_text((i - Q::LENGTH) % T::LENGTH)
 }
 
 // A note about place `from` or a later one: its byte is changed there, and becomes the byte that the file has.
