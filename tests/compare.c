@@ -235,7 +235,7 @@ static void each_byte(void)
     static const payment_kind kinds[4] = {BIC_AND_COUNTRY, CHEQUE, CODE_AND_BANK, BIC_ALONE};
     random_file(4, kinds, 0);
     lend_draft();
-    uint8_t *f = input[FILE_IN].write - draft_n;
+    uint8_t *f = stretch[FILE_IN].write - draft_n;
     for (size_t at = 0; at < draft_n; at++) {
         uint8_t kept = f[at];
         for (size_t k = 0; k < sizeof edges - 1; k++) {
@@ -262,18 +262,15 @@ static bool prepare_pair(void)
     size_t room = now.room, places = now.places;
     memcpy(forwarded, out_of(DESK), draft_n);
     memcpy(notes, notes_of(DESK), 4 * (notes_n = answer[DESK][2]));
-    for (size_t i = 0; i + 1 < notes_n; i++)
-        if (notes[i] / 256 >= notes[i + 1] / 256)
-            differ("notes do not rise");
 
     lend(FILE_IN, forwarded, draft_n);
     lend(NOTES_IN, notes, 4 * notes_n);
+    expect(OUTPUT_DUE, draft, draft_n);
     run_expecting(RESTORE, 0);
-    if (memcmp(out_of(DESK), draft, draft_n) != 0)
-        differ("restore does not give the file back");
     now.places = below(2) * 5;
-    if (run_expecting(PREPARE, 0)[2] != 0 || memcmp(out_of(DESK), forwarded, draft_n) != 0)
-        differ("the forwarded file is not forwarded as it is");
+    expect_answer((uint64_t[]){0, 0, 0}, 3);
+    expect(OUTPUT_DUE, forwarded, draft_n);
+    run(PREPARE);
     now.room = room, now.places = places;
     lend_draft();
     return true;
@@ -418,13 +415,12 @@ static void restore_changed(int way)
     }
     lend(FILE_IN, f, n);
     lend(NOTES_IN, changed_notes, 4 * changed_n);
-    run_expecting(RESTORE, expected);
     if (expected == 0) {
         for (size_t k = 0; k < changed_n; k++)
             f[changed_notes[k] / 256] = (uint8_t)changed_notes[k];
-        if (memcmp(out_of(DESK), f, n) != 0)
-            differ("restore does not give the file of these notes");
+        expect(OUTPUT_DUE, f, n);
     }
+    run_expecting(RESTORE, expected);
     lend_draft();
 }
 
@@ -484,11 +480,8 @@ static void taken_lists(void)
     lend_taken(list, n);
     run(JUDGE_FULL);
     lend_taken(NULL, 0);
-    run(JUDGE);
-    uint64_t code = answer[DESK][0];
-    run(JUDGE_FULL);
-    if (code != answer[DESK][1] * 100 + answer[DESK][0])
-        differ("judge is not record * 100 + number of the full judgement");
+    const uint64_t *full = run(JUDGE_FULL);
+    run_expecting(JUDGE, full[1] * 100 + full[0]);
 }
 
 /* The number at each place of short lists, once and twice, and lists without it. */
@@ -517,14 +510,12 @@ static void show_fields(bool all)
     for (size_t i = 0; i < (all ? R * F : 2); i++) {
         uint64_t record = now.record = records[all ? i % R : below(R)];
         uint64_t field = now.field = fields[all ? i / R : below(F)];
-        run(SHOW);
-        if (!all)
-            continue;
         bool there = record == 0 ? field == 1 : record <= payments && field >= 2 && field <= 9;
         uint64_t start = !there ? 0 : (uint64_t)text[field].first + (record ? 256 + (record - 1) * 768 : 0);
         uint64_t length = !there ? 0 : (uint64_t)(text[field].last - text[field].first + 1);
-        if (answer[DESK][0] != start || answer[DESK][1] != length)
-            differ("another part expected after the paper");
+        if (all)
+            expect_answer((uint64_t[]){start, length}, 2);
+        run(SHOW);
     }
 }
 
@@ -612,12 +603,14 @@ static void fixed_cases(void)
 {
     use_annexes();
     worked_example();
-    const uint64_t *a = run_expecting(JUDGE_FULL, 0);
-    if (a[2] != 2 || a[3] != 199 || a[4] != 125)
-        differ("2 payments, 199 euros, 125 cents expected");
+    expect_answer((uint64_t[]){0, 0, 2, 199, 125}, 5);
+    run(JUDGE_FULL);
     now.room = draft_n, now.places = 1;
-    if (run_expecting(PREPARE, 0)[2] != 1 || notes_of(DESK)[0] != 316198 || out_of(DESK)[1235] != '+')
-        differ("the one note 316198 expected");
+    draft[1235] = '+';                                  /* the draft is lent already */
+    expect_answer((uint64_t[]){0, 0, 1}, 3);
+    expect(OUTPUT_DUE, draft, draft_n);
+    expect(NOTES_DUE, (uint32_t[]){316198}, 4);
+    run(PREPARE);
     lend(FILE_IN, NULL, 0);
     run_expecting(JUDGE, 2);
     lend(FILE_IN, "0256", 4);
@@ -707,11 +700,10 @@ static void long_files(void)
     lend_draft();
     lend_taken(NULL, 0);
     run_expecting(JUDGE, 0);
-    const uint64_t *a = run_expecting(JUDGE_FULL, 0);
-    if (a[2] != 9999 || a[3] != 49995000 || a[4] != 495000)
-        differ("9999 payments, 49995000 euros, 495000 cents expected");
-    if (!prepare_pair())
-        differ("a sound file of 9,999 payments refused");
+    expect_answer((uint64_t[]){0, 0, 9999, 49995000, 495000}, 5);
+    run(JUDGE_FULL);
+    expect_answer((uint64_t[]){0, 0, 4}, 3);
+    prepare_pair();
     for (int way = 0; way < RESTORE_WAYS; way += 4)
         restore_changed(way);
     for (size_t places = 0; places < 3; places++)
@@ -737,8 +729,8 @@ static void long_files(void)
                 *b = changed_into(*b);
             }
     lend_draft();
-    if (!prepare_pair())
-        differ("a sound file with changes everywhere refused");
+    expect_answer((uint64_t[]){0}, 1);
+    prepare_pair();
     rooms(2, 1);
     restore_changed(FALLING);
     draft_n = MOST_FILE + 1;
@@ -791,7 +783,7 @@ int main(int argc, char **argv)
     const char *kept = NULL;
     for (int i = 1; i < argc; i++) {
         bool more = i + 1 < argc;
-        if (strcmp(argv[i], "--null") == 0) lend_null = true;
+        if (strcmp(argv[i], "--null") == 0) now.null = 1;
         else if (more && strcmp(argv[i], "--seed") == 0) random_state = strtoull(argv[++i], NULL, 0);
         else if (more && strcmp(argv[i], "--calls") == 0) wanted_calls = strtoull(argv[++i], NULL, 0);
         else if (more && strcmp(argv[i], "--replay") == 0) kept = argv[++i];

@@ -21,7 +21,6 @@
 #define KEPT_CASE "compare-case.txt"
 
 static uint64_t calls = 0;
-static bool lend_null = false;                      /* lend empty stretches as null */
 
 /* ---- Lent memory -------------------------------------------------------------------------- */
 
@@ -30,10 +29,15 @@ enum { SPARE = 1 << 16 };
 enum { MOST_NOTES = 140 + MOST_PAYMENTS * 553 };    /* every character of every text field */
 
 typedef struct { uint8_t *write, *lent; } area;     /* both are the end of the memory */
-enum { FILE_IN, TRANSFER, CHEQUE_LIST, TAKEN, NOTES_IN, INPUTS };
+/* What is lent for reading; and what is due, where the paper settles it: the answer's first numbers, the bytes
+   that the output begins with, and those that the note places begin with. A case is kept with both. */
+enum { FILE_IN, TRANSFER, CHEQUE_LIST, TAKEN, NOTES_IN, ANSWER_DUE, OUTPUT_DUE, NOTES_DUE, STRETCHES };
 enum { DESK, PLAIN, SIDES };
 
-static area input[INPUTS], output[SIDES], note_places[SIDES];
+static const size_t most_bytes[STRETCHES] = {
+    MOST_FILE + SPARE, SPARE, SPARE, SPARE, 4 * MOST_NOTES + SPARE, SPARE, MOST_FILE + SPARE, 4 * MOST_NOTES + SPARE
+};
+static area stretch[STRETCHES], output[SIDES], note_places[SIDES];
 static uint8_t pattern[4 * MOST_NOTES + SPARE];     /* what outputs hold before a call */
 
 static void *mapped(void *p)
@@ -62,8 +66,8 @@ static area make_area(size_t bytes, bool read_only)
 
 static void make_areas(void)
 {
-    for (int i = 0; i < INPUTS; i++)
-        input[i] = make_area(i == FILE_IN ? MOST_FILE + SPARE : i == NOTES_IN ? 4 * MOST_NOTES + SPARE : SPARE, true);
+    for (int i = 0; i < STRETCHES; i++)
+        stretch[i] = make_area(most_bytes[i], true);
     for (int s = 0; s < SIDES; s++) {
         output[s] = make_area(MOST_FILE + SPARE, false);
         note_places[s] = make_area(4 * MOST_NOTES + SPARE, false);
@@ -80,7 +84,9 @@ static void make_areas(void)
 enum { JUDGE, JUDGE_FULL, PREPARE, RESTORE, SHOW, CALLS };
 
 static const char *const call_name[CALLS] = {"judge", "judge_full", "prepare", "restore", "show"};
-static const char *const input_name[INPUTS] = {"file", "transfer", "cheque", "taken", "notes"};
+static const char *const stretch_name[STRETCHES] = {
+    "file", "transfer", "cheque", "taken", "notes", "answer-due", "output-due", "notes-due"
+};
 static const char *const answer_name[CALLS][5] = {
     {"code"}, {"number", "record", "payments", "euros", "cents"}, {"number", "record", "notes"},
     {"number", "record"}, {"start", "length"}
@@ -89,10 +95,17 @@ static const char *const answer_name[CALLS][5] = {
 typedef struct {
     uint64_t call, room, places, record, field;     /* room in bytes, places in notes */
     uint64_t shift;                                 /* bytes between the file and the closed page */
-    size_t size[INPUTS];                            /* bytes */
+    uint64_t null;                                  /* 1: empty stretches are lent as null */
+    size_t size[STRETCHES];                         /* bytes */
 } request;
 
 static request now;
+static const struct { const char *name; uint64_t *value; } figure[] = {
+    {"room", &now.room}, {"places", &now.places}, {"record", &now.record}, {"field", &now.field},
+    {"shift", &now.shift}, {"null", &now.null}
+};
+enum { FIGURES = sizeof figure / sizeof figure[0] };
+
 static uint64_t answer[SIDES][5];
 static volatile int running = -1;                   /* the side that is at work */
 static int lost = -1;                               /* a side that did not come back */
@@ -104,22 +117,26 @@ static void lend(int which, const void *bytes, size_t n)
 {
     now.size[which] = n;
     if (n)
-        memcpy(input[which].write - back(which), bytes, n);
+        memcpy(stretch[which].write - back(which), bytes, n);
 }
+
+/* Sets down what is due of the next call, and of that one alone. */
+static void expect(int due, const void *bytes, size_t n) { lend(due, bytes, n); }
+static void expect_answer(const uint64_t *numbers, size_t n) { expect(ANSWER_DUE, numbers, 8 * n); }
 
 static const void *lent(int which)
 {
-    return lend_null && now.size[which] == 0 ? NULL : input[which].lent - back(which);
+    return now.null && now.size[which] == 0 ? NULL : stretch[which].lent - back(which);
 }
 
 static uint8_t *out_of(int side)
 {
-    return lend_null && now.room == 0 ? NULL : output[side].lent - now.room;
+    return now.null && now.room == 0 ? NULL : output[side].lent - now.room;
 }
 
 static uint32_t *notes_of(int side)
 {
-    return lend_null && now.places == 0 ? NULL : (uint32_t *)(void *)(note_places[side].lent - 4 * now.places);
+    return now.null && now.places == 0 ? NULL : (uint32_t *)(void *)(note_places[side].lent - 4 * now.places);
 }
 
 static void fill_outputs(int side)
@@ -184,14 +201,15 @@ static void keep_case(const char *what)
     FILE *f = keeping ? fopen(KEPT_CASE, "w") : NULL;
     if (!f)
         return;
-    const bool used[INPUTS] = {true, now.call != SHOW, now.call != SHOW, now.call == JUDGE_FULL, now.call == RESTORE};
+    const bool used[STRETCHES] = {true, now.call != SHOW, now.call != SHOW, now.call == JUDGE_FULL,
+                                  now.call == RESTORE, true, true, true};
     fprintf(f, "# %s\ncall %s\n", what, call_name[now.call]);
-    fprintf(f, "room %" PRIu64 "\nplaces %" PRIu64 "\nrecord %" PRIu64 "\nfield %" PRIu64 "\nshift %" PRIu64 "\n",
-            now.room, now.places, now.record, now.field, now.shift);
-    for (int i = 0; i < INPUTS; i++) {
+    for (int i = 0; i < FIGURES; i++)
+        fprintf(f, "%s %" PRIu64 "\n", figure[i].name, *figure[i].value);
+    for (int i = 0; i < STRETCHES; i++) {
         size_t n = used[i] ? now.size[i] : 0;
-        const uint8_t *bytes = input[i].lent - back(i);
-        fprintf(f, "%s %zu\n", input_name[i], n);
+        const uint8_t *bytes = stretch[i].lent - back(i);
+        fprintf(f, "%s %zu\n", stretch_name[i], n);
         for (size_t k = 0; k < n; k++)
             fprintf(f, "%02x%s", bytes[k], k + 1 == n || k % 32 == 31 ? "\n" : "");
     }
@@ -263,94 +281,150 @@ static void check_memory(const char *name, area of[SIDES], size_t bytes, size_t 
     }
 }
 
+/* What holds of every answer, whatever was lent. */
+static void check_answer(const uint64_t *a)
+{
+    bool writes = now.call == PREPARE || now.call == RESTORE;
+    if (writes)
+        check_memory("output bytes", output, now.room, a[0] ? 0 : now.size[FILE_IN]);
+    if (now.call == PREPARE) {
+        check_memory("note places", note_places, 4 * now.places, a[0] ? 0 : 4 * a[2]);
+        if (a[0] && a[2])
+            differ("notes counted though refused");
+        for (uint64_t i = 0; i + 1 < a[2]; i++)
+            if (notes_of(DESK)[i] / 256 >= notes_of(DESK)[i + 1] / 256)
+                differ("notes do not rise");
+    }
+    if ((writes || now.call == JUDGE_FULL) && (a[0] == 0 || a[0] >= 50) && a[1] != 0)
+        differ("record 0 expected");
+    if (now.call == JUDGE_FULL && a[0] && (a[2] || a[3] || a[4]))
+        differ("sums answered though refused");
+    if (now.call == SHOW && (a[1] ? a[0] > now.size[FILE_IN] || a[1] > now.size[FILE_IN] - a[0] : a[0] != 0))
+        differ("part outside the file, or an empty part with a place");
+}
+
+static void check_due(const char *name, int due, const void *lent_memory, size_t lent_bytes)
+{
+    static char text[100];
+    const uint8_t *have = lent_memory, *wanted = stretch[due].lent - now.size[due];
+    size_t n = now.size[due], i = 0;
+    if (n == 0 || (n <= lent_bytes && memcmp(have, wanted, n) == 0))
+        return;
+    while (i < lent_bytes && have[i] == wanted[i])
+        i++;
+    snprintf(text, sizeof text, "hex %02X expected after the paper at byte %zu of the %s", wanted[i], i, name);
+    differ(text);
+}
+
+/* What the paper settles of this call. */
+static void check_expected(const uint64_t *a)
+{
+    static char text[100];
+    const uint64_t *due = (const uint64_t *)(const void *)(stretch[ANSWER_DUE].lent - now.size[ANSWER_DUE]);
+    for (size_t i = 0; i < now.size[ANSWER_DUE] / 8; i++)
+        if (a[i] != due[i]) {
+            snprintf(text, sizeof text, "%s %" PRIu64 " expected after the paper", answer_name[now.call][i], due[i]);
+            differ(text);
+        }
+    check_due("output", OUTPUT_DUE, out_of(DESK), now.room);
+    check_due("note places", NOTES_DUE, notes_of(DESK), 4 * now.places);
+}
+
+/* Every check of a call is made here, so that a replay makes it too. */
 static const uint64_t *run(int call)
 {
     now.call = (uint64_t)call;
-    bool writes = call == PREPARE || call == RESTORE;
-    if (!writes) now.room = 0;
+    if (call != PREPARE && call != RESTORE) now.room = 0;
     if (call != PREPARE) now.places = 0;
     if (call != SHOW) now.record = now.field = 0;
-    for (int side = 0; side < SIDES && writes; side++)
+    for (int side = 0; side < SIDES; side++)
         fill_outputs(side);
     ask(DESK);
     ask(PLAIN);
     calls++;
     if (memcmp(answer[DESK], answer[PLAIN], sizeof answer[DESK]) != 0)
         differ("answers");
-    const uint64_t *a = answer[DESK];
-    if (writes)
-        check_memory("output bytes", output, now.room, a[0] ? 0 : now.size[FILE_IN]);
-    if (call == PREPARE) {
-        check_memory("note places", note_places, 4 * now.places, a[0] ? 0 : 4 * a[2]);
-        if (a[0] && a[2])
-            differ("notes counted though refused");
-    }
-    if ((writes || call == JUDGE_FULL) && (a[0] == 0 || a[0] >= 50) && a[1] != 0)
-        differ("record 0 expected");
-    if (call == JUDGE_FULL && a[0] && (a[2] || a[3] || a[4]))
-        differ("sums answered though refused");
-    if (call == SHOW && (a[1] ? a[0] > now.size[FILE_IN] || a[1] > now.size[FILE_IN] - a[0] : a[0] != 0))
-        differ("part outside the file, or an empty part with a place");
-    return a;
+    check_answer(answer[DESK]);
+    check_expected(answer[DESK]);
+    now.size[ANSWER_DUE] = now.size[OUTPUT_DUE] = now.size[NOTES_DUE] = 0;
+    return answer[DESK];
 }
 
 /* Runs a call whose first answer the paper settles. */
-static const uint64_t *run_expecting(int call, uint64_t expected)
+static const uint64_t *run_expecting(int call, uint64_t number)
 {
-    static char text[80];
-    const uint64_t *a = run(call);
-    if (a[0] != expected) {
-        snprintf(text, sizeof text, "%s %" PRIu64 " expected after the paper", answer_name[call][0], expected);
-        differ(text);
-    }
-    return a;
+    expect_answer(&number, 1);
+    return run(call);
 }
 
 /* ---- Replay ------------------------------------------------------------------------------- */
 
-static int replay(const char *name)
+static bool read_number(FILE *f, const char *name, uint64_t *number)
+{
+    char word[32];
+    return fscanf(f, " %31s %" SCNu64, word, number) == 2 && strcmp(word, name) == 0;
+}
+
+static bool read_stretch(FILE *f, int which)
+{
+    uint64_t n;
+    unsigned byte;
+    if (!read_number(f, stretch_name[which], &n) || n + now.shift > most_bytes[which])
+        return false;
+    now.size[which] = (size_t)n;
+    for (uint64_t k = 0; k < n; k++) {
+        if (fscanf(f, " %2x", &byte) != 1)
+            return false;
+        (stretch[which].write - back(which))[k] = (uint8_t)byte;
+    }
+    printf("%s: %" PRIu64 " bytes\n", stretch_name[which], n);
+    return true;
+}
+
+/* Reads a kept case into the request; says what it reads. */
+static bool read_case(FILE *f)
 {
     char word[32], line[200];
-    uint64_t number;
+    if (!fgets(line, sizeof line, f) || fscanf(f, " call %31s", word) != 1)
+        return false;
+    printf("kept: %s", line);
+    now.call = 0;
+    while (now.call < CALLS && strcmp(word, call_name[now.call]) != 0)
+        now.call++;
+    if (now.call == CALLS)
+        return false;
+    for (int i = 0; i < FIGURES; i++) {
+        if (!read_number(f, figure[i].name, figure[i].value))
+            return false;
+        printf("%s %" PRIu64 "\n", figure[i].name, *figure[i].value);
+    }
+    for (int i = 0; i < STRETCHES; i++)
+        if (!read_stretch(f, i))
+            return false;
+    return true;
+}
+
+static void print_run(int side)
+{
+    fill_outputs(side);
+    ask(side);
+    print_answer(side);
+    for (uint64_t i = 0; now.call == PREPARE && i < answer[side][2] && i < now.places && i < 10; i++)
+        printf("  note: place %u, byte %u\n", notes_of(side)[i] / 256, notes_of(side)[i] % 256);
+}
+
+static int replay(const char *name)
+{
     FILE *f = fopen(name, "r");
-    if (!f || !fgets(line, sizeof line, f) || fscanf(f, " call %31s", word) != 1) {
+    if (!f || !read_case(f)) {
         fprintf(stderr, "%s: no kept case\n", name);
         return 2;
     }
-    keeping = false;
-    printf("kept: %s", line);
-    int call = 0;
-    while (call < CALLS && strcmp(word, call_name[call]) != 0)
-        call++;
-    uint64_t *const figure[5] = {&now.room, &now.places, &now.record, &now.field, &now.shift};
-    for (int i = 0; i < 5; i++)
-        if (call == CALLS || fscanf(f, " %31s %" SCNu64, word, figure[i]) != 2)
-            return 2;
-    for (int i = 0; i < INPUTS; i++) {
-        if (fscanf(f, " %31s %" SCNu64, word, &number) != 2 || strcmp(word, input_name[i]) != 0)
-            return 2;
-        now.size[i] = (size_t)number;
-        for (uint64_t k = 0; k < number; k++) {
-            unsigned byte;
-            if (fscanf(f, " %2x", &byte) != 1)
-                return 2;
-            (input[i].write - back(i))[k] = (uint8_t)byte;
-        }
-        printf("lent %s: %" PRIu64 " bytes\n", input_name[i], number);
-    }
     fclose(f);
-    printf("room %" PRIu64 ", note places %" PRIu64 ", record %" PRIu64 ", field %" PRIu64 "\n",
-           now.room, now.places, now.record, now.field);
-    now.call = (uint64_t)call;
-    for (int side = 0; side < SIDES; side++) {
-        fill_outputs(side);
-        ask(side);
-        print_answer(side);
-        if (call == PREPARE)
-            for (uint64_t i = 0; i < answer[side][2] && i < now.places && i < 10; i++)
-                printf("  note: place %u, byte %u\n", notes_of(side)[i] / 256, notes_of(side)[i] % 256);
-    }
-    run(call);      /* tells a difference, if there is one */
+    keeping = false;
+    print_run(DESK);
+    print_run(PLAIN);
+    run((int)now.call);     /* tells a difference, if there is one */
     printf("%" PRIu64 " calls compared, 0 differ\n", calls);
     return 0;
 }
