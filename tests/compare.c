@@ -162,62 +162,77 @@ static void other_call(uint64_t rule, uint64_t record, size_t which)
     }
 }
 
+/* A sound file of which that record is of the wanted kind; answers the record's number. */
+static size_t file_to_spoil(char who, size_t at)
+{
+    static const payment_kind sets[4][3] = {
+        {BIC_ALONE, CODE_AND_BANK, CHEQUE}, {CHEQUE, BIC_AND_COUNTRY, BIC_ALONE},
+        {CODE_AND_BANK, CHEQUE, BIC_AND_COUNTRY}, {CODE_AND_BANK, CODE_AND_BANK, CHEQUE}};
+    payment_kind kinds[3];
+    memcpy(kinds, sets[below(4)], sizeof kinds);
+    if (is_kind(who))
+        kinds[at - 1] = kind_of(who);
+    random_file(is_kind(who) ? 3 : at, kinds, 0);
+    size_t record = who == 'Q' ? 0 : who == 'Z' ? payments + 1 : at;
+    uint8_t *r = record_of(record);
+    if (who == 'l' || who == 'c')
+        memcpy(r + 64, annex_ii + 2 * below(156), 2);
+    if (who == 'b' || who == 'l')
+        memset(r + 67, ' ', 140);
+    return record;
+}
+
+static void one_rule_alone(const row *w, char who, size_t at)
+{
+    size_t record = file_to_spoil(who, at);
+    uint8_t *r = record_of(record), kept[768];
+    size_t told = w->rule == 21 && at == 1 ? 2 : w->rule == 0 ? 0 : record;
+    memcpy(kept, r, 768);
+    for (size_t way = 0; way < ways(w); way++) {
+        spoil(w, r, way);
+        lend_draft();
+        run_expecting(JUDGE, told * 100 + (uint64_t)w->rule);
+        other_call((uint64_t)w->rule, told, way + at);
+        memcpy(r, kept, 768);
+    }
+}
+
 static void each_rule_alone(void)
 {
     for (const row *w = rows; w < rows + ROWS; w++)
         for (const char *who = w->who; *who; who++)
-            for (size_t at = 1; at <= 3; at++) {
-                static const payment_kind sets[4][3] = {
-                    {BIC_ALONE, CODE_AND_BANK, CHEQUE}, {CHEQUE, BIC_AND_COUNTRY, BIC_ALONE},
-                    {CODE_AND_BANK, CHEQUE, BIC_AND_COUNTRY}, {CODE_AND_BANK, CODE_AND_BANK, CHEQUE}};
-                payment_kind kinds[3];
-                memcpy(kinds, sets[below(4)], sizeof kinds);
-                size_t record = *who == 'Q' ? 0 : at;
-                if (is_kind(*who))
-                    kinds[at - 1] = kind_of(*who);
-                random_file(*who == 'Q' || *who == 'Z' ? at : 3, kinds, 0);
-                if (*who == 'Z')
-                    record = payments + 1;
-                uint8_t *r = record_of(record), kept[768];
-                if (*who == 'l' || *who == 'c')
-                    memcpy(r + 64, annex_ii + 2 * below(156), 2);
-                if (strchr("bl", *who))
-                    memset(r + 67, ' ', 140);
-                size_t told = w->rule == 21 && at == 1 ? 2 : w->rule == 0 ? 0 : record;
-                memcpy(kept, r, 768);
-                for (size_t way = 0; way < ways(w); way++) {
-                    spoil(w, r, way);
-                    lend_draft();
-                    run_expecting(JUDGE, told * 100 + (uint64_t)w->rule);
-                    other_call((uint64_t)w->rule, told, way + at);
-                    memcpy(r, kept, 768);
-                }
-            }
+            for (size_t at = 1; at <= 3; at++)
+                one_rule_alone(w, *who, at);
 }
 
-/* Two rules broken at once, in one record or in two. */
+static size_t record_for(char who, size_t payment) { return who == 'Q' ? 0 : who == 'Z' ? 4 : payment; }
+
+/* Two rules broken at once: in one record where the rows allow it, or with the second before or behind. */
+static void pair_of_rules(const row *v, const row *w, size_t again)
+{
+    char who_v = v->who[below(strlen(v->who))], who_w = w->who[below(strlen(w->who))];
+    payment_kind kinds[3] = {BIC_ALONE, BIC_ALONE, BIC_ALONE};
+    size_t payment_v = again < 3 && strchr(v->who, who_w) ? 2 : again % 2 ? 1 : 3;
+    if (is_kind(who_w)) kinds[1] = kind_of(who_w);
+    if (payment_v != 2 && is_kind(who_v)) kinds[payment_v - 1] = kind_of(who_v);
+    random_file(3, kinds, 0);
+    size_t at_w = record_for(who_w, 2), at_v = record_for(who_v, payment_v);
+    spoil(w, record_of(at_w), below(ways(w)));
+    spoil(v, record_of(at_v), below(ways(v)));
+    lend_draft();
+    run(JUDGE);
+    /* these ways break their rule whatever else is spoiled: the earlier one is told */
+    uint64_t code_w = at_w * 100 + (uint64_t)w->rule, code_v = at_v * 100 + (uint64_t)v->rule;
+    if (v != w && strchr("!9_f", v->how) && strchr("!9_f", w->how))
+        run_expecting(JUDGE, code_w < code_v ? code_w : code_v);
+}
+
 static void each_pair_of_rules(void)
 {
     for (const row *v = rows; v < rows + ROWS; v++)
         for (const row *w = rows; w <= v; w++)
-            for (size_t again = 0; again < 6 && v->rule && w->rule; again++) {
-                char who_v = v->who[below(strlen(v->who))], who_w = w->who[below(strlen(w->who))];
-                payment_kind kinds[3] = {BIC_ALONE, BIC_ALONE, BIC_ALONE};
-                size_t at_w = 2, at_v = again < 3 && strchr(v->who, who_w) ? 2 : again % 2 ? 1 : 3;
-                if (is_kind(who_w)) kinds[1] = kind_of(who_w);
-                if (at_v != 2 && is_kind(who_v)) kinds[at_v - 1] = kind_of(who_v);
-                random_file(3, kinds, 0);
-                at_w = who_w == 'Q' ? 0 : who_w == 'Z' ? 4 : at_w;
-                at_v = who_v == 'Q' ? 0 : who_v == 'Z' ? 4 : at_v;
-                spoil(w, record_of(at_w), below(ways(w)));
-                spoil(v, record_of(at_v), below(ways(v)));
-                lend_draft();
-                run(JUDGE);
-                /* these ways break their rule whatever else is spoiled: the earlier one is told */
-                uint64_t code_w = at_w * 100 + (uint64_t)w->rule, code_v = at_v * 100 + (uint64_t)v->rule;
-                if (v != w && strchr("!9_f", v->how) && strchr("!9_f", w->how))
-                    run_expecting(JUDGE, code_w < code_v ? code_w : code_v);
-            }
+            for (size_t again = 0; again < 6 && v->rule && w->rule; again++)
+                pair_of_rules(v, w, again);
 }
 
 /* A random row on a random record of its kind; unfit records are spoiled as well. */
@@ -318,109 +333,163 @@ static size_t random_place(bool inside)
     }
 }
 
-enum { AS_IT_IS, NO_NOTES, ONE_LESS, SAME_REPLACEMENT, ONE_MORE, UNREPLACED, OTHER_REPLACEMENT, TWICE, FALLING,
-       OUTSIDE_TEXT, OUTSIDE_FILE, ZEROS_BEHIND, ZERO_BEFORE, NOT_CLEAN, NOT_SOUND, NO_ROOM, RESTORE_WAYS };
+/* Ways to change the prepared pair. Each changes the file or the notes below and answers the number that restore then
+   owes, or that the way is not open to this pair, or that the number is left to the comparison. */
+enum { NOT_OPEN = -1, NOT_SETTLED = -2 };
+typedef int change(void);
+static uint8_t changed_file[MOST_FILE + SPARE];
 
-/* Restore of the prepared pair, changed in one way; tells nothing when the way is not open. */
-static void restore_changed(int way)
+static int as_it_is(void) { return 0; }
+
+static int no_notes(void)
 {
-    uint64_t expected = 70;
-    size_t at, i = below(notes_n), n = draft_n;
-    static uint8_t f[MOST_FILE + SPARE];
-    memcpy(f, forwarded, n);
+    changed_n = 0;
+    return 0;
+}
+
+static int one_note_less(void)
+{
+    if (notes_n == 0)
+        return NOT_OPEN;
+    size_t i = one_in(2) ? notes_n - 1 : below(notes_n);
+    memmove(changed_notes + i, changed_notes + i + 1, 4 * (--changed_n - i));
+    return 0;
+}
+
+static int same_replacement(void)
+{
+    if (notes_n == 0)
+        return NOT_OPEN;
+    size_t i = below(notes_n), at = notes[i] / 256;
+    changed_notes[i] = (uint32_t)(at * 256 + changed_into(forwarded[at]));
+    return 0;
+}
+
+static int one_note_more(void)
+{
+    size_t at = random_place(true);
+    uint8_t byte = changed_into(forwarded[at]);
+    if (noted(at) || byte == forwarded[at])
+        return NOT_OPEN;
+    insert_note(at, byte);
+    return 0;
+}
+
+static int unreplaced(void)
+{
+    size_t at = random_place(true);
+    if (noted(at))
+        return NOT_OPEN;
+    insert_note(at, forwarded[at]);
+    return 70;
+}
+
+static int other_replacement(void)
+{
+    if (notes_n == 0)
+        return NOT_OPEN;
+    size_t i = below(notes_n), at = notes[i] / 256;
+    uint8_t byte = forwarded[at] == ' ' ? (uint8_t)"$&[\\]~Aa0/"[below(10)] : blank_byte();
+    changed_notes[i] = (uint32_t)(at * 256 + byte);
+    return 70;
+}
+
+static int two_at_one_place(void)
+{
+    if (notes_n == 0)
+        return NOT_OPEN;
+    size_t i = below(notes_n), at = notes[i] / 256;
+    insert_note(at, one_in(2) ? (uint8_t)notes[i] : changed_into(forwarded[at]));
+    return 70;
+}
+
+static int falling_places(void)
+{
+    if (notes_n < 2)
+        return NOT_OPEN;
+    size_t i = below(notes_n - 1), k = one_in(2) ? i + 1 : i + 1 + below(notes_n - 1 - i);
+    changed_notes[i] = notes[k];
+    changed_notes[k] = notes[i];
+    return 70;
+}
+
+static int outside_text(void)
+{
+    size_t at = random_place(false);
+    uint8_t byte = changed_into(forwarded[at]);
+    if (byte == forwarded[at])
+        return NOT_OPEN;
+    insert_note(at, byte);
+    return 70;
+}
+
+static int outside_file(void)
+{
+    size_t n = draft_n;
+    size_t at = one_in(2) ? n + below(1000) : one_in(2) ? 0xFFFFFF : n + 768 * below(10) + (size_t)text[2].first;
+    changed_notes[changed_n++] = (uint32_t)(at * 256 + (one_in(2) ? blank_byte() : 255));
+    return 70;
+}
+
+static int zeros_behind(void)
+{
+    for (size_t more = 1 + below(3); more > 0; more--)
+        changed_notes[changed_n++] = 0;
+    return 70;
+}
+
+static int zero_before(void)
+{
+    insert_note(0, 0);
+    return 70;
+}
+
+static int not_clean(void)
+{
+    changed_file[random_place(true)] = one_in(2) ? changed_into(' ') : (uint8_t)"&$[\\]~"[below(6)];
+    return 70;
+}
+
+static int not_sound(void)
+{
+    uint8_t *b = changed_file + random_place(false);
+    *b = one_in(2) ? *b ^ (uint8_t)(1u << below(8)) : (uint8_t)any();
+    return NOT_SETTLED;
+}
+
+static int no_room(void)
+{
+    now.room = one_in(2) ? draft_n - 1 : one_in(2) ? 0 : below(draft_n);
+    if (one_in(2)) changed_notes[changed_n++] = (uint32_t)any();
+    if (one_in(2)) changed_file[random_place(false)] ^= 1;
+    return 60;
+}
+
+static change *const changes[] = {
+    as_it_is, no_notes, one_note_less, same_replacement, one_note_more, unreplaced, other_replacement, two_at_one_place,
+    falling_places, outside_text, outside_file, zeros_behind, zero_before, not_clean, not_sound, no_room
+};
+enum { CHANGES = sizeof changes / sizeof changes[0] };
+
+/* Restore of the prepared pair, changed in one way. */
+static void restore_changed(change *way)
+{
+    memcpy(changed_file, forwarded, draft_n);
     memcpy(changed_notes, notes, 4 * (changed_n = notes_n));
-    now.room = n + below(2) * below(50);
-    switch (way) {
-    case AS_IT_IS:
-        expected = 0;
-        break;
-    case NO_NOTES:
-        changed_n = 0;
-        expected = 0;
-        break;
-    case ONE_LESS:
-        if (notes_n == 0) return;
-        if (one_in(2)) i = notes_n - 1;
-        memmove(changed_notes + i, changed_notes + i + 1, 4 * (--changed_n - i));
-        expected = 0;
-        break;
-    case SAME_REPLACEMENT:
-        if (notes_n == 0) return;
-        at = changed_notes[i] / 256;
-        changed_notes[i] = (uint32_t)(at * 256 + changed_into(f[at]));
-        expected = 0;
-        break;
-    case ONE_MORE:
-        at = random_place(true);
-        if (noted(at) || changed_into(f[at]) == f[at]) return;
-        insert_note(at, changed_into(f[at]));
-        expected = 0;
-        break;
-    case UNREPLACED:
-        at = random_place(true);
-        if (noted(at)) return;
-        insert_note(at, f[at]);
-        break;
-    case OTHER_REPLACEMENT:
-        if (notes_n == 0) return;
-        at = changed_notes[i] / 256;
-        changed_notes[i] = (uint32_t)(at * 256 + (f[at] == ' ' ? (uint8_t)"$&[\\]~Aa0/"[below(10)] : blank_byte()));
-        break;
-    case TWICE:
-        if (notes_n == 0) return;
-        at = changed_notes[i] / 256;
-        insert_note(at, one_in(2) ? (uint8_t)changed_notes[i] : changed_into(f[at]));
-        break;
-    case FALLING:
-        if (notes_n < 2) return;
-        i = below(notes_n - 1);
-        at = one_in(2) ? i + 1 : i + 1 + below(notes_n - 1 - i);
-        changed_notes[i] = notes[at];
-        changed_notes[at] = notes[i];
-        break;
-    case OUTSIDE_TEXT:
-        at = random_place(false);
-        if (changed_into(f[at]) == f[at]) return;
-        insert_note(at, changed_into(f[at]));
-        break;
-    case OUTSIDE_FILE:
-        at = one_in(2) ? n + below(1000) : one_in(2) ? 0xFFFFFF : n + 768 * below(10) + (size_t)text[2].first;
-        changed_notes[changed_n++] = (uint32_t)(at * 256 + (one_in(2) ? blank_byte() : 255));
-        break;
-    case ZEROS_BEHIND:
-        for (size_t more = 1 + below(3); more > 0; more--)
-            changed_notes[changed_n++] = 0;
-        break;
-    case ZERO_BEFORE:
-        insert_note(0, 0);
-        break;
-    case NOT_CLEAN:
-        at = random_place(true);
-        f[at] = one_in(2) ? changed_into(' ') : (uint8_t)"&$[\\]~"[below(6)];
-        break;
-    case NOT_SOUND:
-        at = random_place(false);
-        f[at] = one_in(2) ? f[at] ^ (uint8_t)(1u << below(8)) : (uint8_t)any();
-        lend(FILE_IN, f, n);
-        lend(NOTES_IN, changed_notes, 4 * changed_n);
-        run(RESTORE);
-        lend_draft();
+    now.room = draft_n + below(2) * below(50);
+    int number = way();
+    if (number == NOT_OPEN)
         return;
-    case NO_ROOM:
-        now.room = one_in(2) ? n - 1 : one_in(2) ? 0 : below(n);
-        if (one_in(2)) changed_notes[changed_n++] = (uint32_t)any();
-        if (one_in(2)) f[random_place(false)] ^= 1;
-        expected = 60;
-        break;
-    }
-    lend(FILE_IN, f, n);
+    lend(FILE_IN, changed_file, draft_n);
     lend(NOTES_IN, changed_notes, 4 * changed_n);
-    if (expected == 0) {
+    if (number != NOT_SETTLED)
+        expect_answer((uint64_t[]){(uint64_t)number}, 1);
+    if (number == 0) {
         for (size_t k = 0; k < changed_n; k++)
-            f[changed_notes[k] / 256] = (uint8_t)changed_notes[k];
-        expect(OUTPUT_DUE, f, n);
+            changed_file[changed_notes[k] / 256] = (uint8_t)changed_notes[k];
+        expect(OUTPUT_DUE, changed_file, draft_n);
     }
-    run_expecting(RESTORE, expected);
+    run(RESTORE);
     lend_draft();
 }
 
@@ -443,18 +512,14 @@ static void each_character(void)
 static void each_room_and_pair(size_t files)
 {
     for (size_t i = 0; i < files; i++) {
-        random_file(1 + below(3), NULL, (int)below(3));
-        if (i == 0)
-            random_file(2, NULL, 0);
+        random_file(i == 0 ? 2 : 1 + below(3), NULL, i == 0 ? 0 : (int)below(3));
         lend_draft();
         if (!prepare_pair())
             continue;
-        for (size_t room = 0; room < 6; room++)
-            for (size_t places = 0; places < 6; places++)
-                rooms(room, places);
-        for (int way = 0; way < RESTORE_WAYS; way++)
-            for (int again = 0; again < 4; again++)
-                restore_changed(way);
+        for (size_t k = 0; k < 36; k++)
+            rooms(k / 6, k % 6);
+        for (size_t k = 0; k < 4 * CHANGES; k++)
+            restore_changed(changes[k / 4]);
     }
 }
 
@@ -484,19 +549,25 @@ static void taken_lists(void)
     run_expecting(JUDGE, full[1] * 100 + full[0]);
 }
 
+/* The file's number at two places of a list, which may be one or lie behind its end. */
+static void taken_at(size_t n, size_t first, size_t second)
+{
+    uint64_t list[6];
+    for (size_t way = 0; way < 8; way++) {
+        for (size_t i = 0; i < n; i++)
+            list[i] = i == first || i == second ? file_number() : untaken(i + way);
+        lend_taken(list, n);
+        run_expecting(JUDGE_FULL, first < n ? 50 : 0);
+    }
+}
+
 /* The number at each place of short lists, once and twice, and lists without it. */
 static void each_taken_list(void)
 {
-    uint64_t list[6];
     for (size_t n = 0; n <= 6; n++)
         for (size_t first = 0; first <= n; first++)
             for (size_t second = first; second <= n; second++)
-                for (size_t way = 0; way < 8; way++) {
-                    for (size_t i = 0; i < n; i++)
-                        list[i] = i == first || i == second ? file_number() : untaken(i + way);
-                    lend_taken(list, n);
-                    run_expecting(JUDGE_FULL, first < n ? 50 : 0);
-                }
+                taken_at(n, first, second);
 }
 
 /* All of them only on a file that the walk passes: then the part is known. */
@@ -591,102 +662,124 @@ static void worked_example(void)
     lend_draft();
 }
 
-static void edge(size_t record, int at, const char *bytes, uint64_t code)
+static void answers_of_the_example(void)
 {
-    worked_example();
-    put(record_of(record) + at, bytes);
-    lend_draft();
-    run_expecting(JUDGE, code);
-}
-
-static void fixed_cases(void)
-{
-    use_annexes();
     worked_example();
     expect_answer((uint64_t[]){0, 0, 2, 199, 125}, 5);
     run(JUDGE_FULL);
     now.room = draft_n, now.places = 1;
-    draft[1235] = '+';                                  /* the draft is lent already */
+    draft[1235] = '+';                                  /* in the draft alone: the file is lent already */
     expect_answer((uint64_t[]){0, 0, 1}, 3);
     expect(OUTPUT_DUE, draft, draft_n);
     expect(NOTES_DUE, (uint32_t[]){316198}, 4);
     run(PREPARE);
-    lend(FILE_IN, NULL, 0);
-    run_expecting(JUDGE, 2);
-    lend(FILE_IN, "0256", 4);
-    run_expecting(JUDGE, 2);
-    lend(FILE_IN, "XXXXX", 5);
-    run_expecting(JUDGE, 4);
-    lend(FILE_IN, "9999Q", 5);
-    run_expecting(JUDGE, 3);
-    lend(FILE_IN, "0256Q", 5);
-    run_expecting(JUDGE, 2);
-    edge(0, 0, "0255Q", 3);
-    edge(1, 0, "0769T", 103);
-    edge(2, 0, "0768t", 204);
-    edge(3, 0, "0257Z", 303);
-    edge(1, 0, "0256Z", 104);
-    edge(1, 0, "0256Q", 104);
-    edge(2, 0, "0256Q", 204);
-    edge(3, 0, "0256Q", 304);
-    edge(2, 0, "0256Z", 205);
-    edge(2, 0, "0768Z", 203);
-    edge(3, 0, "0256T", 303);
-    edge(3, 0, "0768T", 302);
-    edge(0, 163, "000229", 0);
-    edge(0, 163, "010229", 13);
-    edge(1, 53, "SC123456   ", 126);
-    edge(2, 472, "500", 0);
-    edge(2, 472, "505", 233);
-    edge(2, 210, "===================================", 229);
-    edge(3, 5, "000000000000200", 342);
-    edge(3, 5, "000000000000200000000000000003", 341);
-    edge(3, 255, "X", 340);
-    show_fields(true);                                  /* content is not asked for */
+}
 
-    /* sums of 999,999,999,999,999 and one more, which Z3 cannot hold */
-    for (int more = 0; more < 2; more++) {
+static void short_files(void)
+{
+    static const struct { const char *bytes; uint64_t code; } files[] = {
+        {"", 2}, {"0256", 2}, {"XXXXX", 4}, {"9999Q", 3}, {"0256Q", 2}
+    };
+    for (size_t i = 0; i < sizeof files / sizeof files[0]; i++) {
+        lend(FILE_IN, files[i].bytes, strlen(files[i].bytes));
+        run_expecting(JUDGE, files[i].code);
+    }
+}
+
+/* The example with other bytes at one place, and the code that is then due. */
+typedef struct { size_t record; int at; const char *bytes; uint64_t code; } edge;
+
+static void run_edges(const edge *e, size_t count)
+{
+    for (; count > 0; e++, count--) {
+        worked_example();
+        put(record_of(e->record) + e->at, e->bytes);
+        lend_draft();
+        run_expecting(JUDGE, e->code);
+    }
+}
+
+static void edges_of_the_rules(void)
+{
+    static const edge edges[] = {
+        {0, 0, "0255Q", 3}, {1, 0, "0769T", 103}, {2, 0, "0768t", 204}, {3, 0, "0257Z", 303},
+        {1, 0, "0256Z", 104}, {1, 0, "0256Q", 104}, {2, 0, "0256Q", 204}, {3, 0, "0256Q", 304},
+        {2, 0, "0256Z", 205}, {2, 0, "0768Z", 203}, {3, 0, "0256T", 303}, {3, 0, "0768T", 302},
+        {0, 163, "000229", 0}, {0, 163, "010229", 13},
+        {1, 53, "SC123456   ", 126},
+        {2, 472, "500", 0}, {2, 472, "505", 233},
+        {2, 210, "===================================", 229},
+        {3, 5, "000000000000200", 342}, {3, 5, "000000000000200000000000000003", 341}, {3, 255, "X", 340}
+    };
+    run_edges(edges, sizeof edges / sizeof edges[0]);
+    show_fields(true);                                  /* content is not asked for */
+}
+
+/* Sums of 999,999,999,999,999 and one more, which Z3 cannot hold. */
+static void edges_of_the_sum(void)
+{
+    for (unsigned more = 0; more < 2; more++) {
         payments = 11;
         draft_n = file_bytes(11);
         sample_q(draft);
         for (size_t r = 1; r <= 11; r++)
-            sample_t(record_of(r), CHEQUE, "US", r < 11 ? 99999999999999u : 9u + (unsigned)more, 99);
+            sample_t(record_of(r), CHEQUE, "US", r < 11 ? 99999999999999u : 9u + more, 99);
         sample_z(draft, 11);
         lend_draft();
         run_expecting(JUDGE, more ? 1242 : 0);
         run(JUDGE_FULL);
     }
-    /* countries of any content */
+}
+
+static void countries_of_any_content(void)
+{
+    static const edge edges[] = {
+        {1, 207, "BC ", 128}, {1, 207, "X  ", 128}, {1, 207, "XX ", 128}, {1, 207, "   ", 228}, {1, 207, "AB ", 228}
+    };
     use_lists("  ABCD\xFF\x00X", 9, "", 0);
-    edge(1, 207, "BC ", 128);
-    edge(1, 207, "X  ", 128);
-    edge(1, 207, "XX ", 128);
-    edge(1, 207, "   ", 228);
-    edge(1, 207, "AB ", 228);
+    run_edges(edges, sizeof edges / sizeof edges[0]);
     worked_example();
     memcpy(record_of(1) + 207, "\xFF\x00 ", 3);
     memcpy(record_of(2) + 207, "   ", 3);
     lend_draft();
     run_expecting(JUDGE, 0);
+}
+
+/* With a BIC, capitals are asked of T9a, listed or not; without one, the list decides. */
+static void banks_country(void)
+{
+    static const edge with_bic[] = {{2, 64, "a1 ", 226}, {2, 64, "ZZ ", 0}};
+    static const struct { const char *country; uint64_t code; } without[] = {{"a1 ", 0}, {"   ", 0}, {"ZZ ", 226}};
     use_lists("US  a1", 6, "US", 2);
-    edge(2, 64, "a1 ", 226);                            /* listed, but with a BIC capitals are asked */
-    edge(2, 64, "ZZ ", 0);
-    for (int way = 0; way < 3; way++) {
+    run_edges(with_bic, 2);
+    for (int i = 0; i < 3; i++) {
         worked_example();
-        put(record_of(2) + 53, "SC123456   ");          /* without one, the list decides */
-        put(record_of(2) + 64, way == 0 ? "a1 " : way == 1 ? "   " : "ZZ ");
+        put(record_of(2) + 53, "SC123456   ");
+        put(record_of(2) + 64, without[i].country);
         put(record_of(2) + 206, "/");
         lend_draft();
-        run_expecting(JUDGE, way == 2 ? 226 : 0);
+        run_expecting(JUDGE, without[i].code);
     }
+}
+
+static void fixed_cases(void)
+{
+    use_annexes();
+    answers_of_the_example();
+    short_files();
+    edges_of_the_rules();
+    edges_of_the_sum();
+    countries_of_any_content();
+    banks_country();
     use_annexes();
     worked_example();
     each_taken_list();
     show_fields(true);
 }
 
-/* 9,999 payments, one byte more, and faults far back; few, for they are long. */
-static void long_files(void)
+/* ---- 9,999 payments, one byte more, and faults far back; few, for they are long ------------ */
+
+static void long_sound_file(void)
 {
     payments = MOST_PAYMENTS;
     draft_n = MOST_FILE;
@@ -704,35 +797,44 @@ static void long_files(void)
     run(JUDGE_FULL);
     expect_answer((uint64_t[]){0, 0, 4}, 3);
     prepare_pair();
-    for (int way = 0; way < RESTORE_WAYS; way += 4)
-        restore_changed(way);
+    for (size_t i = 0; i < CHANGES; i += 4)
+        restore_changed(changes[i]);
     for (size_t places = 0; places < 3; places++)
         rooms(2, places);
     rooms(1, 3);
     show_fields(true);
-    uint8_t *last = record_of(payments), kept = last[766];          /* T27 */
-    last[766] = 'X';
+}
+
+static void faults_far_back(void)
+{
+    uint8_t *t27 = record_of(payments) + 766, kept = *t27;
+    *t27 = 'X';
     lend_draft();
     run_expecting(JUDGE, 999934);
-    last[766] = kept;
+    *t27 = kept;
     draft[draft_n - 1] = 'X';
     lend_draft();
     run_expecting(JUDGE, 1000040);
     draft[--draft_n] = ' ';
     lend_draft();
     run_expecting(JUDGE, 1000002);
-    draft_n = MOST_FILE;                                            /* as many notes as there can be */
-    for (size_t r = 0; r <= payments; r++)
-        for (int f = r ? 2 : 1; f <= (r ? 9 : 1); f++)
-            for (int i = text[f].first; i <= text[f].last; i++) {
-                uint8_t *b = record_of(r) + i;
-                *b = changed_into(*b);
-            }
+    draft_n = MOST_FILE;
+}
+
+static void as_many_notes_as_can_be(void)
+{
+    for (size_t at = 0; at < draft_n; at++)
+        if (in_text(at, draft_n))
+            draft[at] = changed_into(draft[at]);
     lend_draft();
     expect_answer((uint64_t[]){0}, 1);
     prepare_pair();
     rooms(2, 1);
-    restore_changed(FALLING);
+    restore_changed(falling_places);
+}
+
+static void one_byte_too_long(void)
+{
     draft_n = MOST_FILE + 1;
     lend_draft();
     for (size_t which = 0; which < 4; which++)
@@ -744,6 +846,14 @@ static void long_files(void)
     draft_n = MOST_FILE;
     lend_draft();
     run_expecting(JUDGE, 4);
+}
+
+static void long_files(void)
+{
+    long_sound_file();
+    faults_far_back();
+    as_many_notes_as_can_be();
+    one_byte_too_long();
 }
 
 /* ---- Everything at random ----------------------------------------------------------------- */
@@ -768,7 +878,7 @@ static void random_case(void)
         for (int k = 0; k < 3; k++)
             rooms(below(6), below(6));
         for (int k = 0; k < 5; k++)
-            restore_changed((int)below(RESTORE_WAYS));
+            restore_changed(changes[below(CHANGES)]);
     } else {
         now.room = one_in(2) ? draft_n : below(draft_n + 50);
         now.places = below(100);
