@@ -6,8 +6,9 @@
    Status 0: sound; 1: refused; 2: a file could not be read or written. */
 #include "desk.h"
 
+#include <inttypes.h>
+#include <stdbool.h>
 #include <stdio.h>
-#include <stdlib.h>
 #include <string.h>
 
 /* Annex II and Annex I of source document 000. */
@@ -24,79 +25,88 @@ enum { MOST = 7679744 };
 static uint8_t file[MOST + 1], forwarded[MOST + 1], restored[MOST + 1];
 static uint32_t notes[MOST];
 
-/* The text field in which a changed place lies, by asking for the shown places of its record. */
-static const char *field_at(size_t n, uint64_t place, uint64_t *record)
+/* As many bytes as fit; a file that is longer than any sound one fills the last place too, and is refused. */
+static bool read_whole(const char *path, size_t *n)
 {
-    *record = place < 256 ? 0 : (place - 256) / 768 + 1;
-    for (uint64_t field = 1; field <= 9; field++) {
-        desk_part part = desk_show(file, n, *record, field);
-        if (place - part.start < part.length && part.start <= place)
-            return field_name[field];
+    FILE *f = fopen(path, "rb");
+    if (f)
+        *n = fread(file, 1, sizeof file, f);
+    if (!f || ferror(f)) {
+        perror(path);
+        return false;
     }
-    return "?";
+    fclose(f);
+    return true;
 }
 
-static int write_whole(const char *path, const void *bytes, size_t size)
+static bool write_whole(const char *path, const void *bytes, size_t size)
 {
     FILE *f = fopen(path, "wb");
     if (!f || fwrite(bytes, 1, size, f) != size || fclose(f) != 0) {
         perror(path);
-        return 2;
+        return false;
     }
-    return 0;
+    return true;
 }
 
-static int tell_changes(size_t n, uint64_t count)
+/* The text field in which a changed place lies. The parts are those of Q and of the first T record: a call of desk_show
+   walks the whole file, and in every further T record the fields lie 768 bytes on. */
+static const char *field_at(const desk_part parts[10], uint64_t place, uint64_t record)
 {
+    if (record > 1)
+        place -= 768 * (record - 1);
+    for (int field = 1; field <= 9; field++)
+        if (place >= parts[field].start && place - parts[field].start < parts[field].length)
+            return field_name[field];
+    return "?";
+}
+
+static void tell_changes(size_t n, uint64_t count)
+{
+    desk_part parts[10];
+    for (uint64_t field = 1; field <= 9; field++)
+        parts[field] = desk_show(file, n, field == 1 ? 0 : 1, field);
     for (uint64_t i = 0; i < count; i++) {
-        uint64_t place = notes[i] / 256, record;
-        const char *name = field_at(n, place, &record);
-        printf("record %llu, %s, place %llu: hex %02X becomes '%c'\n", (unsigned long long)record, name,
-               (unsigned long long)place, (unsigned)(notes[i] % 256), forwarded[place]);
+        uint64_t place = notes[i] / 256, record = place < 256 ? 0 : (place - 256) / 768 + 1;
+        printf("record %" PRIu64 ", %s, place %" PRIu64 ": hex %02X becomes '%c'\n", record,
+               field_at(parts, place, record), place, (unsigned)(notes[i] % 256), forwarded[place]);
     }
-    return 0;
+    printf("%" PRIu64 " characters changed\n", count);
+}
+
+static int refused(uint64_t number, uint64_t record)
+{
+    printf("refused: rule %" PRIu64 " at record %" PRIu64 "\n", number, record);
+    return 1;
 }
 
 int main(int argc, char **argv)
 {
+    size_t n = 0;
     if (argc != 2 && argc != 4) {
         fprintf(stderr, "usage: example FILE [FORWARDED NOTES]\n");
         return 2;
     }
-    FILE *f = fopen(argv[1], "rb");
-    if (!f) {
-        perror(argv[1]);
+    if (!read_whole(argv[1], &n))
         return 2;
-    }
-    size_t n = fread(file, 1, sizeof file, f);
-    if (ferror(f)) {
-        perror(argv[1]);
-        return 2;
-    }
-    fclose(f);
 
     static const uint64_t none[1];
     desk_judgement judged = desk_judge_full(file, n, LISTS, none, 0);
-    if (judged.number) {
-        printf("refused: rule %llu at record %llu\n", (unsigned long long)judged.number, (unsigned long long)judged.record);
-        return 1;
-    }
-    printf("sound: %llu payments, %llu euros and %llu cents\n", (unsigned long long)judged.payments,
-           (unsigned long long)judged.euros, (unsigned long long)judged.cents);
+    if (judged.number)
+        return refused(judged.number, judged.record);
+    printf("sound: %" PRIu64 " payments, %" PRIu64 " euros and %" PRIu64 " cents\n", judged.payments, judged.euros,
+           judged.cents);
 
     desk_prepared prepared = desk_prepare(file, n, LISTS, forwarded, sizeof forwarded, notes, MOST);
+    if (prepared.number)
+        return refused(prepared.number, prepared.record);
     tell_changes(n, prepared.notes);
-    printf("%llu characters changed\n", (unsigned long long)prepared.notes);
-    if (argc == 4) {
-        int status = write_whole(argv[2], forwarded, n);
-        if (!status)
-            status = write_whole(argv[3], notes, prepared.notes * sizeof notes[0]);
-        if (status)
-            return status;
-    }
+    if (argc == 4 && !(write_whole(argv[2], forwarded, n) &&
+                       write_whole(argv[3], notes, prepared.notes * sizeof notes[0])))
+        return 2;
 
     desk_restored back = desk_restore(forwarded, n, notes, prepared.notes, LISTS, restored, sizeof restored);
-    if (prepared.number || back.number || memcmp(file, restored, n) != 0) {
+    if (back.number || memcmp(file, restored, n) != 0) {
         printf("not restored\n");
         return 1;
     }
