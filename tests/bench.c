@@ -1,4 +1,4 @@
-/* Times the desk's judge, prepare and restore beside their plain C copies, in one run.
+/* Times the desk's judge, prepare and restore beside an independent implementation, in one run.
 
    bench [--emulated]      or the environment variable DESK_EMULATED set
 

@@ -1,4 +1,4 @@
-/* Compares the desk's five calls with their plain C copies, answer by answer and byte by byte.
+/* Compares the desk's five calls with an independent implementation, answer by answer and byte by byte.
 
    compare [--seed N] [--calls N] [--null]
        The fixed part, some 385,000 calls, always runs; then random files until N calls are made.

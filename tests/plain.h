@@ -1,4 +1,5 @@
-/* The same calls in plain C: the second opinion of the comparison and the base line of the benchmark. */
+/* The same calls in plain C, written from document 01 alone: the second opinion of the comparison and the base line of
+   the benchmark. */
 #ifndef PLAIN_H
 #define PLAIN_H
 
