@@ -2,16 +2,19 @@
 # with Debian's cross compiler, and under the kit's emulator. Read by the scripts beside it.
 kit=$(dirname "$(dirname "$(readlink -f "$(command -v rt)")")")
 flags="-O3 -std=c11 -Wall -Wextra -Werror -Ihosts/c"
+# install COMMAND PACKAGE..: the packages, where the command is missing
+install() {
+    command -v "$1" >/dev/null || (apt-get update -q && apt-get install -y -q "${@:2}") >/dev/null
+}
 if [ "$(uname -m)" = x86_64 ]; then
     compiler=gcc
     run=()
+    install gcc gcc libc6-dev
 else
     compiler="x86_64-linux-gnu-gcc -static"
     run=("$kit/on/$(uname -m)/toolchain/bin/qemu-x86_64")
     export DESK_EMULATED=1
-    if ! command -v x86_64-linux-gnu-gcc >/dev/null; then
-        (apt-get update -q && apt-get install -y -q gcc-x86-64-linux-gnu libc6-dev-amd64-cross) >/dev/null
-    fi
+    install x86_64-linux-gnu-gcc gcc-x86-64-linux-gnu libc6-dev-amd64-cross
 fi
 
 # What rt says is shown only where it fails.
