@@ -4,7 +4,7 @@
        The fixed part, some 385,000 calls, always runs; then random files until N calls are made.
        --null lends every empty stretch as null.
    compare --replay FILE
-       Runs one kept case again.
+       Runs one kept case again, and checks again what was due of it.
 
    Part of the cases also carries the answer that document 01 asks for, so that both sides together
    are held against the paper as well. */
