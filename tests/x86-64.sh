@@ -39,3 +39,26 @@ build() {
     # shellcheck disable=SC2086
     $compiler $flags "$@" target/staticlib/libhost.a -o "target/tests/$name"
 }
+
+# Debian's Rust; on another machine with the standard library for x86-64 of the same version.
+install_rust() {
+    if [ "$(uname -m)" = x86_64 ]; then
+        apt-get update -q && apt-get install -y -q --no-install-recommends rustc
+    else
+        dpkg --add-architecture amd64 && apt-get update -q &&
+            apt-get install -y -q --no-install-recommends rustc libstd-rust-dev:amd64
+    fi
+}
+
+# build_rust NAME SOURCE [FLAG..]: target/tests/NAME over the library
+build_rust() {
+    local name=$1 rustc=rustc
+    shift
+    if [ "$(uname -m)" = x86_64 ]; then
+        command -v rustc >/dev/null || quietly install_rust
+    else
+        rustc="/usr/bin/rustc --target x86_64-unknown-linux-gnu -C linker=x86_64-linux-gnu-gcc -C link-arg=tests/emulated.c"
+        [ -e /usr/lib/rustlib/x86_64-unknown-linux-gnu ] || quietly install_rust
+    fi
+    $rustc --edition 2021 -O -D warnings -L target/staticlib "$@" -o "target/tests/$name"
+}

@@ -1,0 +1,304 @@
+//! The desk's calls for hosts written in Rust: safe functions over slices, above the calls of hosts/c/desk.h.
+//!
+//! They need libhost.a, which is x86-64 code (`rt staticlib host` writes it; `-L target/staticlib` finds it). The library
+//! asks that no pointer be null and that what is lent for writing overlap nothing else that is lent: slices and borrows
+//! keep both. Any bytes, any country lists and any room may be lent. Every call ends with an answer or a numbered refusal,
+//! and a refused call changes no byte that it was lent. Text is read by the DIN 66003 character table.
+
+use std::{error, fmt, ops::Range};
+
+/// Country lists: two bytes a country; a lone last byte is ignored.
+#[derive(Clone, Copy, Debug)]
+pub struct Lists<'a> {
+    pub transfer: &'a [u8],
+    pub cheque: &'a [u8],
+}
+
+/// What a sound file holds: its payments, the sum of their whole euros, and the sum of their cents, which are not carried.
+#[derive(Clone, Copy, Debug, PartialEq, Eq)]
+pub struct Judgement {
+    pub payments: u64,
+    pub euros: u64,
+    pub cents: u64,
+}
+
+/// The first broken rule, and the record at which it is broken: Q is 0, payments count from 1, Z is last.
+#[derive(Clone, Copy, Debug, PartialEq, Eq)]
+pub struct Refusal {
+    pub number: u64,
+    pub record: u64,
+}
+
+/// A note of a changed character: its place in the file, and the byte that was there.
+#[derive(Clone, Copy, Debug, PartialEq, Eq)]
+pub struct Note {
+    pub place: usize,
+    pub original: u8,
+}
+
+/// The text fields: Q5 of record 0, the others of a payment.
+#[derive(Clone, Copy, Debug, PartialEq, Eq)]
+pub enum Field {
+    Q5 = 1,
+    T8,
+    T9b,
+    T10b,
+    T12,
+    T15,
+    T20,
+    T23,
+    T24,
+}
+
+/// Judges a file without taken numbers: record × 100 + number; 0 for a sound file.
+pub fn judge_code(file: &[u8], lists: Lists) -> u64 {
+    let Lists { transfer, cheque } = lists;
+    // SAFETY: each pointer and count is one slice's.
+    unsafe {
+        c::desk_judge(file.as_ptr(), file.len(), transfer.as_ptr(), transfer.len(), cheque.as_ptr(), cheque.len())
+    }
+}
+
+/// Judges a file, also by the taken file numbers: 50, at record 0, comes after every other rule.
+pub fn judge(file: &[u8], lists: Lists, taken: &[u64]) -> Result<Judgement, Refusal> {
+    let Lists { transfer, cheque } = lists;
+    // SAFETY: each pointer and count is one slice's.
+    let judged = unsafe {
+        c::desk_judge_full(
+            file.as_ptr(),
+            file.len(),
+            transfer.as_ptr(),
+            transfer.len(),
+            cheque.as_ptr(),
+            cheque.len(),
+            taken.as_ptr(),
+            taken.len(),
+        )
+    };
+    let c::Judged { number, record, payments, euros, cents } = judged;
+    answer(number, record, Judgement { payments, euros, cents })
+}
+
+/// Prepares a file for forwarding, and answers how many notes there are. `out` then begins with the forwarded file, and
+/// `notes` with a note for each changed character, by rising place; the rest of both keeps its values. Soundness is asked
+/// first, then 60, then 61.
+pub fn prepare(file: &[u8], lists: Lists, out: &mut [u8], notes: &mut [u32]) -> Result<usize, Refusal> {
+    let Lists { transfer, cheque } = lists;
+    // SAFETY: each pointer and count is one slice's; out and notes are borrowed for writing, so they overlap nothing.
+    let prepared = unsafe {
+        c::desk_prepare(
+            file.as_ptr(),
+            file.len(),
+            transfer.as_ptr(),
+            transfer.len(),
+            cheque.as_ptr(),
+            cheque.len(),
+            out.as_mut_ptr(),
+            out.len(),
+            notes.as_mut_ptr(),
+            notes.len(),
+        )
+    };
+    answer(prepared.number, prepared.record, prepared.notes as usize)
+}
+
+/// Restores the file that was prepared, from the forwarded file and all of its notes: `out` then begins with it, and the
+/// rest keeps its bytes. 60 is asked first, then 70.
+pub fn restore(forwarded: &[u8], notes: &[u32], lists: Lists, out: &mut [u8]) -> Result<(), Refusal> {
+    let Lists { transfer, cheque } = lists;
+    // SAFETY: each pointer and count is one slice's; out is borrowed for writing, so it overlaps nothing.
+    let restored = unsafe {
+        c::desk_restore(
+            forwarded.as_ptr(),
+            forwarded.len(),
+            notes.as_ptr(),
+            notes.len(),
+            transfer.as_ptr(),
+            transfer.len(),
+            cheque.as_ptr(),
+            cheque.len(),
+            out.as_mut_ptr(),
+            out.len(),
+        )
+    };
+    answer(restored.number, restored.record, ())
+}
+
+/// A text field as it was written: the very part of the file. `None` where the structure is broken, the record doesn't
+/// exist, or it has no such field.
+pub fn show(file: &[u8], record: u64, field: Field) -> Option<&[u8]> {
+    place(file, record, field).map(|part| &file[part])
+}
+
+/// Where a text field stands in the file: the places of what `show` shows.
+pub fn place(file: &[u8], record: u64, field: Field) -> Option<Range<usize>> {
+    // SAFETY: the pointer and the count are one slice's.
+    let part = unsafe { c::desk_show(file.as_ptr(), file.len(), record, field as u64) };
+    let start = part.start as usize;
+    (part.length > 0).then(|| start..start + part.length as usize)
+}
+
+impl Field {
+    /// All of them, in the order in which they stand in a record.
+    pub const ALL: [Field; 9] = {
+        use Field::*;
+        [Q5, T8, T9b, T10b, T12, T15, T20, T23, T24]
+    };
+}
+
+impl fmt::Display for Field {
+    fn fmt(&self, f: &mut fmt::Formatter) -> fmt::Result {
+        fmt::Debug::fmt(self, f)
+    }
+}
+
+impl From<u32> for Note {
+    fn from(note: u32) -> Note {
+        Note { place: (note / 256) as usize, original: (note % 256) as u8 }
+    }
+}
+
+impl Refusal {
+    /// When the rule is broken, in words.
+    pub fn words(&self) -> &'static str {
+        let row = WORDS.iter().find(|row| row.0 == self.number);
+        row.map_or("no rule of the desk", |row| row.1)
+    }
+}
+
+impl fmt::Display for Refusal {
+    fn fmt(&self, f: &mut fmt::Formatter) -> fmt::Result {
+        write!(f, "rule {} at record {}: {}", self.number, self.record, self.words())
+    }
+}
+
+impl error::Error for Refusal {}
+
+/// The refusals, in the words of README.md; 6 is the program's alone.
+const WORDS: [(u64, &str); 35] = [
+    (1, "file longer than 7,679,744 bytes (9,999 payments)"),
+    (2, "file ends inside a record, or where one is due"),
+    (3, "length digits wrong for the letter"),
+    (4, "letter not allowed here"),
+    (5, "bytes after Z"),
+    (10, "Q3 is not 50400042"),
+    (11, "Q4 is not eight zeros and two digits"),
+    (12, "first line of Q5 blank"),
+    (13, "Q6 is no date YYMMDD (years 2000 to 2099)"),
+    (14, "a non-digit in Q7, Q8, Q10 or Q11"),
+    (15, "Q9 is not N"),
+    (16, "Q12 not all spaces"),
+    (20, "a non-digit in T3 or T4b, or T4a not EUR"),
+    (21, "T3 or T4b differs from record 1"),
+    (22, "T5, T6 or T7b not all zeros, or T7a not spaces"),
+    (23, "T22 is not 00 (transfer), 20 or 22 (cheques)"),
+    (24, "T21 not 00, 01 or 02; for a cheque, not 00"),
+    (25, "cheque: T8 or T9b not blank, or T9a not spaces"),
+    (26, "transfer: T9a wrong: beside a BIC neither three spaces nor two capitals and a space; without one, not a listed country and a space"),
+    (27, "transfer: T8 has no BIC shape and T9b is blank"),
+    (28, "T10a not a listed country and a space"),
+    (29, "first line of T10b blank; for a cheque, also line 3 or line 4"),
+    (30, "T11 not all spaces"),
+    (31, "transfer: T12 does not begin with `/` and a non-space; cheque: T12 not blank"),
+    (32, "T13 not EUR"),
+    (33, "a non-digit in T14a or T14b, last digit of T14b not 0, or amount zero"),
+    (34, "a non-digit in T16 to T19 or T25, or T27 not 00"),
+    (35, "T26 not all spaces"),
+    (40, "a non-digit in Z3 or Z4, or Z5 not all spaces"),
+    (41, "Z4 is not the number of T records"),
+    (42, "Z3 is not the sum of all T14a (whole euros, no cents)"),
+    (50, "judge: the file number (Q4, Q6, Q7) is a taken one"),
+    (60, "prepare, restore: output room shorter than the file"),
+    (61, "prepare: more changes than note places"),
+    (70, "restore: no sound file yields this pair"),
+];
+
+/// A call's answer where its number is 0, and otherwise the refusal.
+fn answer<T>(number: u64, record: u64, sound: T) -> Result<T, Refusal> {
+    match number {
+        0 => Ok(sound),
+        _ => Err(Refusal { number, record }),
+    }
+}
+
+/// The calls of hosts/c/desk.h.
+mod c {
+    #[repr(C)]
+    pub struct Judged {
+        pub number: u64,
+        pub record: u64,
+        pub payments: u64,
+        pub euros: u64,
+        pub cents: u64,
+    }
+
+    #[repr(C)]
+    pub struct Prepared {
+        pub number: u64,
+        pub record: u64,
+        pub notes: u64,
+    }
+
+    #[repr(C)]
+    pub struct Restored {
+        pub number: u64,
+        pub record: u64,
+    }
+
+    #[repr(C)]
+    pub struct Part {
+        pub start: u64,
+        pub length: u64,
+    }
+
+    #[link(name = "host", kind = "static")]
+    extern "C" {
+        pub fn desk_judge(
+            file: *const u8,
+            n: usize,
+            transfer: *const u8,
+            nt: usize,
+            cheque: *const u8,
+            nc: usize,
+        ) -> u64;
+
+        pub fn desk_judge_full(
+            file: *const u8,
+            n: usize,
+            transfer: *const u8,
+            nt: usize,
+            cheque: *const u8,
+            nc: usize,
+            taken: *const u64,
+            taken_n: usize,
+        ) -> Judged;
+
+        pub fn desk_prepare(
+            file: *const u8,
+            n: usize,
+            transfer: *const u8,
+            nt: usize,
+            cheque: *const u8,
+            nc: usize,
+            out: *mut u8,
+            out_n: usize,
+            notes: *mut u32,
+            notes_n: usize,
+        ) -> Prepared;
+
+        pub fn desk_restore(
+            forwarded: *const u8,
+            n: usize,
+            notes: *const u32,
+            notes_n: usize,
+            transfer: *const u8,
+            nt: usize,
+            cheque: *const u8,
+            nc: usize,
+            out: *mut u8,
+            out_n: usize,
+        ) -> Restored;
+
+        pub fn desk_show(file: *const u8, n: usize, record: u64, field: u64) -> Part;
+    }
+}
