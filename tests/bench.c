@@ -17,7 +17,7 @@
 #include "sample.h"
 
 enum { DESK, PLAIN, SIDES };
-enum { JUDGE, PREPARE, RESTORE, CALLS };
+enum { JUDGE, PREPARE, RESTORE, CALLS, SHOW = CALLS };
 static const char *const call_name[CALLS] = {"judge", "prepare", "restore"};
 
 static const size_t sizes[] = {1, 84, 6000, 9999};
@@ -41,9 +41,11 @@ static uint64_t call_once(int call, int side)
     case PREPARE:
         return side == DESK ? desk_prepare(file, n, LISTS, out, n, notes_out, MOST_NOTES).number
                             : plain_prepare(file, n, LISTS, out, n, notes_out, MOST_NOTES).number;
-    default:
+    case RESTORE:
         return side == DESK ? desk_restore(forwarded, n, notes, notes_n, LISTS, out, n).number
                             : plain_restore(forwarded, n, notes, notes_n, LISTS, out, n).number;
+    default:                                                /* the walk over the structure, and no rule */
+        return side == DESK ? desk_show(file, n, 1, 2).start : plain_show(file, n, 1, 2).start;
     }
 }
 
@@ -76,6 +78,20 @@ static void make_file(size_t payments)
                 fprintf(stderr, "%s refuses the sample of %zu payments\n", call_name[call], payments);
                 exit(2);
             }
+}
+
+/* Transfers to one country; in each payee a character to be changed, or in none. */
+static void make_even_file(size_t payments, const char *country, bool change)
+{
+    sample_q(file);
+    for (size_t r = 0; r < payments; r++) {
+        uint8_t *t = file + 256 + r * 768;
+        sample_t(t, BIC_ALONE, country, r + 1, 0);
+        if (change)
+            t[215] = '\'';
+    }
+    sample_z(file, payments);
+    n = file_bytes(payments);
 }
 
 static double seconds(void)
@@ -138,6 +154,28 @@ static void print_machine(bool emulated)
            emulated ? "emulated" : "not emulated");
 }
 
+/* Where the time goes: parts of the work, on 84 payments. */
+static void print_parts(void)
+{
+    static const struct { const char *name; int call, country; bool change; } part[] = {
+        {"structure alone (show)", SHOW, 0, false},
+        {"judge, first country of its list", JUDGE, 0, false},
+        {"judge, last country of its list", JUDGE, ANNEX_II_BYTES - 2, false},
+        {"prepare, nothing changes", PREPARE, 0, false},
+        {"prepare, a change in each payment", PREPARE, 0, true},
+    };
+    printf("\nparts of the work, per payment of 84\n");
+    for (size_t i = 0; i < sizeof part / sizeof part[0]; i++) {
+        double best[SIDES];
+        make_even_file(84, annex_ii + part[i].country, part[i].change);
+        measure(part[i].call, best);
+        printf("%-34s", part[i].name);
+        print_time(best[DESK] / 84);
+        print_time(best[PLAIN] / 84);
+        printf(" %7.2f\n", best[DESK] / best[PLAIN]);
+    }
+}
+
 int main(int argc, char **argv)
 {
     bool emulated = getenv("DESK_EMULATED") != NULL;
@@ -168,5 +206,6 @@ int main(int argc, char **argv)
             printf("%-8s %-5s %8.1f ns to %8.1f ns, factor %.2f\n", call_name[call],
                    side == DESK ? "desk" : "plain", few * 1e9, many * 1e9, many / few);
         }
+    print_parts();
     return 0;
 }
