@@ -1,15 +1,13 @@
 /* Times the desk's judge, prepare and restore beside an independent implementation, in one run.
 
-   bench [--emulated]      or the environment variable DESK_EMULATED set
-
-   Each figure is the best of many timing loops; no figure fails anything. */
+   The environment variable DESK_EMULATED names the processor under an emulator. Each figure is the best of many timing
+   loops; no figure fails anything. */
 
 #define _GNU_SOURCE
 #include <stdbool.h>
 #include <stdio.h>
 #include <stdlib.h>
 #include <string.h>
-#include <sys/utsname.h>
 #include <time.h>
 
 #include "desk.h"
@@ -137,10 +135,10 @@ static void print_time(double s)
     else printf(" %8.3f ms", s * 1e3);
 }
 
-static void print_machine(bool emulated)
+/* emulated: the processor that an emulator runs on, or null. */
+static void print_machine(const char *emulated)
 {
-    struct utsname u;
-    char line[256], model[256] = "unknown";
+    char line[256], model[256] = "no model told";
     FILE *f = fopen("/proc/cpuinfo", "r");
     while (f && fgets(line, sizeof line, f))
         if (strncmp(line, "model name", 10) == 0 && strchr(line, ':')) {
@@ -150,8 +148,10 @@ static void print_machine(bool emulated)
         }
     if (f)
         fclose(f);
-    printf("machine: %s, %s, %s\n", uname(&u) == 0 ? u.machine : "unknown", model,
-           emulated ? "emulated" : "not emulated");
+    if (emulated)
+        printf("machine: x86-64, emulated on %s\n", emulated);
+    else
+        printf("machine: x86-64, %s, not emulated\n", model);
 }
 
 /* Where the time goes: parts of the work, on 84 payments. */
@@ -176,12 +176,9 @@ static void print_parts(void)
     }
 }
 
-int main(int argc, char **argv)
+int main(void)
 {
-    bool emulated = getenv("DESK_EMULATED") != NULL;
-    if (argc > 1 && strcmp(argv[1], "--emulated") == 0)
-        emulated = true;
-    print_machine(emulated);
+    print_machine(getenv("DESK_EMULATED"));
     printf("best of %d loops of at least %.0f ms; ratio is desk / plain\n\n", ROUNDS, loop_seconds * 1e3);
     printf("%8s %-8s %11s %11s %7s %11s %11s\n", "payments", "call", "desk", "plain", "ratio",
            "desk MB/s", "plain MB/s");

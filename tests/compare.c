@@ -1,8 +1,7 @@
 /* Compares the desk's five calls with an independent implementation, answer by answer and byte by byte.
 
-   compare [--seed N] [--calls N] [--null]
+   compare [--seed N] [--calls N]
        The fixed part, some 385,000 calls, always runs; then random files until N calls are made.
-       --null lends every empty stretch as null.
    compare --replay FILE
        Runs one kept case again, and checks again what was due of it.
 
@@ -893,12 +892,11 @@ int main(int argc, char **argv)
     const char *kept = NULL;
     for (int i = 1; i < argc; i++) {
         bool more = i + 1 < argc;
-        if (strcmp(argv[i], "--null") == 0) now.null = 1;
-        else if (more && strcmp(argv[i], "--seed") == 0) random_state = strtoull(argv[++i], NULL, 0);
+        if (more && strcmp(argv[i], "--seed") == 0) random_state = strtoull(argv[++i], NULL, 0);
         else if (more && strcmp(argv[i], "--calls") == 0) wanted_calls = strtoull(argv[++i], NULL, 0);
         else if (more && strcmp(argv[i], "--replay") == 0) kept = argv[++i];
         else {
-            fprintf(stderr, "usage: compare [--seed N] [--calls N] [--null] | compare --replay FILE\n");
+            fprintf(stderr, "usage: compare [--seed N] [--calls N] | compare --replay FILE\n");
             return 2;
         }
     }

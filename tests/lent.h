@@ -18,7 +18,7 @@
 #include "plain.h"
 #include "sample.h"
 
-#define KEPT_CASE "compare-case.txt"
+#define KEPT_CASE "target/tests/compare-case.txt"
 
 static uint64_t calls = 0;
 
@@ -95,14 +95,13 @@ static const char *const answer_name[CALLS][5] = {
 typedef struct {
     uint64_t call, room, places, record, field;     /* room in bytes, places in notes */
     uint64_t shift;                                 /* bytes between the file and the closed page */
-    uint64_t null;                                  /* 1: empty stretches are lent as null */
     size_t size[STRETCHES];                         /* bytes */
 } request;
 
 static request now;
 static const struct { const char *name; uint64_t *value; } figure[] = {
     {"room", &now.room}, {"places", &now.places}, {"record", &now.record}, {"field", &now.field},
-    {"shift", &now.shift}, {"null", &now.null}
+    {"shift", &now.shift}
 };
 enum { FIGURES = sizeof figure / sizeof figure[0] };
 
@@ -126,17 +125,17 @@ static void expect_answer(const uint64_t *numbers, size_t n) { expect(ANSWER_DUE
 
 static const void *lent(int which)
 {
-    return now.null && now.size[which] == 0 ? NULL : stretch[which].lent - back(which);
+    return stretch[which].lent - back(which);
 }
 
 static uint8_t *out_of(int side)
 {
-    return now.null && now.room == 0 ? NULL : output[side].lent - now.room;
+    return output[side].lent - now.room;
 }
 
 static uint32_t *notes_of(int side)
 {
-    return now.null && now.places == 0 ? NULL : (uint32_t *)(void *)(note_places[side].lent - 4 * now.places);
+    return (uint32_t *)(void *)(note_places[side].lent - 4 * now.places);
 }
 
 static void fill_outputs(int side)

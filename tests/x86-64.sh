@@ -25,7 +25,7 @@ if [ "$(uname -m)" = x86_64 ]; then
 else
     compiler="x86_64-linux-gnu-gcc -static"
     run=("$kit/on/$(uname -m)/toolchain/bin/qemu-x86_64")
-    export DESK_EMULATED=1
+    export DESK_EMULATED=$(uname -m)
     command -v x86_64-linux-gnu-gcc >/dev/null || quietly install_packages gcc-x86-64-linux-gnu libc6-dev-amd64-cross
 fi
 

@@ -1,5 +1,5 @@
-/* The desk's calls for hosts written in C. They are proved to meet document 01; libhost.a has them for x86-64
-   (`rt staticlib host` writes target/staticlib/libhost.a).
+/* The desk's calls for hosts written in C. They are proved to meet the definitions that state document 01; libhost.a has
+   them for x86-64 (`rt staticlib host` writes target/staticlib/libhost.a).
 
    Lent memory passes as a pointer and a count of elements. A pointer is never null; where its count is 0, nothing is
    read or written through it. What is lent for writing (out, notes) overlaps nothing else that is lent. Any bytes, any
@@ -72,15 +72,16 @@ desk_judgement desk_judge_full(const uint8_t *file, size_t n,
                                const uint8_t *transfer, size_t nt, const uint8_t *cheque, size_t nc,
                                const uint64_t *taken, size_t taken_n);
 
-/* Prepares a file for forwarding. Soundness first, then 60, then 61, record 0 for both. Number 0: out begins with the
-   forwarded file and notes with a note for each changed character, by rising place: place in the file * 256 + original
-   byte; the rest of both keeps its values. */
+/* Prepares a file for forwarding. Soundness first, then 60, then 61. Number 0: out begins with the forwarded file and
+   notes with a note for each changed character, by rising place: place in the file * 256 + original byte; the rest of both
+   keeps its values; the answer's notes is how many there are. Refused: the number, and notes 0. The record is that of an
+   unsound file's first broken rule, else 0. */
 desk_prepared desk_prepare(const uint8_t *file, size_t n,
                            const uint8_t *transfer, size_t nt, const uint8_t *cheque, size_t nc,
                            uint8_t *out, size_t out_n, uint32_t *notes, size_t notes_n);
 
 /* Restores the file that was prepared from the forwarded file and all of its notes. 60 first, then 70. Number 0: out
-   begins with the original, and the rest keeps its bytes. */
+   begins with the original, and the rest keeps its bytes. The record is always 0. */
 desk_restored desk_restore(const uint8_t *forwarded, size_t n, const uint32_t *notes, size_t notes_n,
                            const uint8_t *transfer, size_t nt, const uint8_t *cheque, size_t nc,
                            uint8_t *out, size_t out_n);

@@ -75,20 +75,17 @@ fn run(paths: &[PathBuf], out: &mut impl Write) -> io::Result<bool> {
     Ok(same)
 }
 
-/// Tells each change. The notes rise by place, as a record's fields do, so each field is asked for once at most.
+/// Tells each change. The places are asked of Q and of the first payment, for each asking walks the whole file; in every
+/// further payment the fields lie 768 bytes on.
 fn tell_changes(file: &[u8], forwarded: &[u8], notes: &[u32], out: &mut impl Write) -> io::Result<()> {
-    let mut record = 0;
-    let mut fields = fields_of(file, record).peekable();
+    let fields: Vec<(Field, Range<usize>)> =
+        [0, 1].into_iter().flat_map(|record| fields_of(file, record)).collect();
     for Note { place, original } in notes.iter().copied().map(Note::from) {
-        let changed = if place < 256 { 0 } else { (place as u64 - 256) / 768 + 1 };
-        if record != changed {
-            record = changed;
-            fields = fields_of(file, record).peekable();
-        }
-        while fields.next_if(|(_, part)| part.end <= place).is_some() {}
-        let name = match fields.peek() {
-            Some((field, part)) if part.contains(&place) => field.to_string(),
-            _ => "?".to_string(),
+        let record = if place < 256 { 0 } else { (place - 256) / 768 + 1 };
+        let in_first = place - 768 * record.saturating_sub(1);
+        let name = match fields.iter().find(|(_, part)| part.contains(&in_first)) {
+            Some((field, _)) => field.to_string(),
+            None => "?".to_string(),
         };
         let becomes = forwarded[place] as char;
         writeln!(out, "record {record}, {name}, place {place}: hex {original:02X} becomes '{becomes}'")?;
@@ -96,7 +93,7 @@ fn tell_changes(file: &[u8], forwarded: &[u8], notes: &[u32], out: &mut impl Wri
     Ok(())
 }
 
-/// The text fields of a record by rising place, each with its places in the file, which are asked for when it is its turn.
+/// The text fields of a record, each with its places in the file.
 fn fields_of(file: &[u8], record: u64) -> impl Iterator<Item = (Field, Range<usize>)> + '_ {
     Field::ALL.into_iter().filter_map(move |field| Some((field, desk::place(file, record, field)?)))
 }

@@ -16,8 +16,8 @@ use Rattle.structure.specs.Slots.{slotAt}
 use Rattle.structure.specs.Walk.{letterOf, digitsOf, allowed, lengthFor, digitsFor}
 use Rattle.judge.specs.Sums.{euroSum}
 
--- A rule is broken at a record, and `at` is its turn there: of rules 2 to 5 the turn in the paper's list, of the others the
--- number itself.
+-- A rule is broken at a record, and `at` is its turn there: 0 for rule 1, of rules 2 to 5 the turn in the paper's list, of
+-- the content rules the number itself.
 
 -- rule 1: "file longer than 7,679,744 bytes", at record 0
 pub record TooLong (file : List ℕ) (number rec at : ℕ) : Type 0 where
@@ -46,11 +46,12 @@ BrokenIn (row ∷ rows) (suc at) number = BrokenIn rows at number
 abbrev pub Whole : List ℕ → ℕ → Type 0
 Whole file k = (at number : ℕ) → BrokenIn (walkRules k (slotAt file k)) at number → ⊥
 
--- record k is due: every record before it is whole, and none is a Z
+-- record k is whole, and no Z
 pub record Passed (file : List ℕ) (k : ℕ) : Type 0 where
   pub whole : Whole file k
   pub no-z : letterOf (slotAt file k) ≡ code "Z" → ⊥
 
+-- record k is due: every record before it is whole, and none is a Z
 abbrev pub Due : List ℕ → ℕ → Type 0
 Due file k = (j : ℕ) → j < k → Passed file j
 

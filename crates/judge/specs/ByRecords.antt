@@ -23,7 +23,7 @@ use Rattle.structure.specs.Fits.{Passed, Fit, fits, fit-found}
 use Rattle.structure.specs.declared.Shape.the-variants.{Fits}
 use Rattle.judge.specs.Content.{faultOf, ruleFrom, ruleEnd, contentOf, rule-real}
 use Rattle.judge.specs.Meaning.{sound, complete}
-use Rattle.judge.specs.Sums.{euroSum}
+use Rattle.judge.specs.Sums.{total, euros, euroSum}
 use Rattle.judge.specs.Verdict.{refused, unless, verdictOf}
 use Rattle.judge.specs.declared.Verdict.{Verdict}
 use Rattle.judge.specs.declared.Broken.{Broken}
@@ -48,6 +48,22 @@ fileOf q ts z = q ++ (joined ts ++ z)
 abbrev pub AllLong : List (List ℕ) → Type 0
 AllLong [] = Unit {0}
 AllLong (t ∷ ts) = (length t ≡ 768) × AllLong ts
+
+-- the payments' whole euros
+abbrev pub eurosOf : List (List ℕ) → ℕ
+eurosOf [] = 0
+eurosOf (t ∷ ts) = euros t + eurosOf ts
+
+-- a sum over records 1 to n from its first on
+first-out : (f : ℕ → ℕ) (n : ℕ) → total f (suc n) ≡ f 1 + total (λ (k : ℕ). f (suc k)) n
+first-out f zero = omega arith
+first-out f (suc n) = omega (arith, first-out f n)
+
+sum-of : (f : ℕ → ℕ) (ts : List (List ℕ)) → ((k : ℕ) → k < length ts → f (k + 1) ≡ euros (getD ts k [])) → total f (length ts) ≡ eurosOf ts
+sum-of f [] h = refl
+sum-of f (t ∷ ts) h =
+    first-out f (length ts)
+    ∙ ap₂ _+_ (h 0 (omega arith)) (sum-of (λ (k : ℕ). f (suc k)) ts (λ k l. ap f (omega arith) ∙ h (suc k) (omega arith)))
 
 pub record Sized (q : List ℕ) (ts : List (List ℕ)) (z : List ℕ) : Type 0 where
   pub q-size : length q ≡ 256
@@ -102,6 +118,10 @@ module _ (q : List ℕ) (ts : List (List ℕ)) (z : List ℕ) (sized : Sized q t
       last : (ts : List (List ℕ)) → take 768 (joined (drop (length ts) ts) ++ z) ≡ take 768 z
       last [] = refl
       last (t ∷ ts) = last ts
+
+  pub sum-by-records : euroSum (fileOf q ts z) (length ts) ≡ eurosOf ts
+  unfolding euroSum
+  sum-by-records = sum-of (λ (k : ℕ). euros (slotAt (fileOf q ts z) k)) ts (λ k l. ap euros (slot-t k l))
 
   -- each head is right, and there are 1 to 9,999 payments
   pub record Heads : Type 0 where
@@ -174,7 +194,7 @@ module _ (q : List ℕ) (ts : List (List ℕ)) (z : List ℕ) (sized : Sized q t
     pub heads : Heads
     pub q-rules : (rule : ℕ) → 10 ≤ rule → rule < 17 → qFault page q rule ≡ 0
     pub t-rules : (k : ℕ) → k < length ts → (rule : ℕ) → 20 ≤ rule → rule < 36 → tFault page transfer cheque (keyOf (getD ts 0 [])) (getD ts k []) rule ≡ 0
-    pub z-rules : (rule : ℕ) → 40 ≤ rule → rule < 43 → zFault (length ts) (euroSum (fileOf q ts z) (length ts)) z rule ≡ 0
+    pub z-rules : (rule : ℕ) → 40 ≤ rule → rule < 43 → zFault (length ts) (eurosOf ts) z rule ≡ 0
 
   module _ (page : ℕ) (transfer cheque : List ℕ) where
     F : ℕ → ℕ → ℕ
@@ -190,10 +210,11 @@ module _ (q : List ℕ) (ts : List (List ℕ)) (z : List ℕ) (sized : Sized q t
         of-t page (fileOf q ts z) (length ts) _ transfer cheque (k + 1) rule _ (λ (e : k + 1 ≡ 0). omega arith) (omega arith)
         (sym (slot-t 0 (omega arith))) refl (sym (slot-t k l)) refl
 
-    f-z : (rule : ℕ) → zFault (length ts) (euroSum (fileOf q ts z) (length ts)) z rule ≡ F (length ts + 1) rule
+    f-z : (rule : ℕ) → zFault (length ts) (eurosOf ts) z rule ≡ F (length ts + 1) rule
     unfolding F
     f-z rule =
-        of-z page (fileOf q ts z) (length ts) _ transfer cheque (length ts + 1) rule _ (λ (e : length ts + 1 ≡ 0). omega arith) (omega arith) (sym slot-z) refl
+        ap (λ (sum : ℕ). zFault (length ts) sum z rule) (sym sum-by-records)
+        ∙ of-z page (fileOf q ts z) (length ts) _ transfer cheque (length ts + 1) rule _ (λ (e : length ts + 1 ≡ 0). omega arith) (omega arith) (sym slot-z) refl
 
     -- what the content walk asks of the records below length ts + 2 is what Keeps says
     abbrev Held : ℕ → Type 0

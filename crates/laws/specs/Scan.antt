@@ -6,7 +6,6 @@ use mathlib.Core.Bool.{Bool, true, false, cond}
 use mathlib.Core.Logic.{_⊎_, inl, inr, ⊎-elim}
 use native.Mathlib.Nat.{eq-or-lt-of-le, le-refl}
 use native.Mathlib.Omega.{arith}
-use Rattle.laws.specs.Choice.{picks}
 
 count : (e i : ℕ) → i < e → e - i ≡ suc (e - (i + 1))
 count e i h = omega arith
@@ -43,9 +42,6 @@ module _ {A : Type 0} (g : ℕ → A → A) (z : A) where
 
       pub ends : e ≤ i → run i e ≡ whole → z ≡ whole
       ends h inv = sym (run-end h) ∙ inv
-
--- for `search` at a scanning loop's `loop-again` and `returns`, whose invariant is `run g z i e ≡ whole`
-pub ruleset scans = (picks, goes, leaves, ends)
 
 -- a search: the first place where P holds, told by f; z where there is none
 abbrev pub orElse : {A : Type 0} → (ℕ → Bool) → (ℕ → A) → ℕ → A → A

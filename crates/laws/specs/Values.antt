@@ -1,5 +1,4 @@
--- A table of a function: where the code's list is the list of the function's values, which is shown by computing, each
--- entry is the value at its index.
+-- The values of a function as a list: two functions whose lists compute to the same agree at every place of them.
 use Prim.Native.Nat.{ℕ, zero, suc, _+_, _<_}
 use mathlib.Core.Path.{_≡_, sym, ap, _∙_}
 use mathlib.Core.List.{List, [], _∷_}

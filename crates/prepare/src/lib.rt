@@ -9,8 +9,8 @@ ghost use Rattle.prepare.specs.Sized.{Sized};
 ghost use Rattle.prepare.specs.Prepared.{refused, SentAs, PreparedAs};
 
 pub mod count;
-pub mod note;
-pub mod place;
+mod note;
+mod place;
 
 // Number 0, record 0 and how many notes there are; or the number of a refusal, its record, and 0.
 #[repr(C)]
@@ -31,7 +31,7 @@ fn refusal(number: usize, rec: usize) -> Prepared
 }
 
 // Output and notes of a file for which there is room, and how many notes there are.
-pub fn forward(page: u32, file: &[u8], out: &mut [u8], notes: &mut [u32]) -> usize
+fn forward(page: u32, file: &[u8], out: &mut [u8], notes: &mut [u32]) -> usize
     requires { ⌜ Sized (now file) × (length (now file) ≤ length (now out)) × (length (notesOf page (now file)) ≤ length (now notes)) ⌝ }
     ensures output { λ _. ⌜ now (out .exit) ≡ put 0 (forwarded page (now (file .entry))) (now (out .entry)) ⌝ }
     ensures noted { λ r. ⌜ Noted (notesOf page (now (file .entry))) 0 (now (notes .entry)) (now (notes .exit)) r ⌝ }
@@ -41,7 +41,7 @@ pub fn forward(page: u32, file: &[u8], out: &mut [u8], notes: &mut [u32]) -> usi
 }
 
 // The file to send, by its room: nothing is written before both are known.
-pub fn send(page: u32, file: &[u8], out: &mut [u8], notes: &mut [u32]) -> Prepared
+fn send(page: u32, file: &[u8], out: &mut [u8], notes: &mut [u32]) -> Prepared
     requires { ⌜ Sized (now file) ⌝ }
     ensures { λ r. ⌜ SentAs page (now (file .entry)) (now (out .entry)) (now (notes .entry)) r (now (out .exit)) (now (notes .exit)) ⌝ }
 {
