@@ -2,10 +2,11 @@
 -- how many they are.
 use Prim.Native.Nat.{ℕ, suc, _+_, _*_, _≤_}
 use mathlib.Core.Path.{_≡_, refl, sym, ap, ap₂, _∙_}
-use mathlib.Core.Bool.{Bool, true, false, _&&_, not, cond}
+use mathlib.Core.Bool.{Bool, true, false, _&&_, not, cond, and-true, and-assoc}
 use mathlib.Core.List.{List, [], _∷_, _++_}
 use native.Mathlib.Nat.{add-zero}
 use native.Mathlib.Omega.{arith}
+use borrow.Author.Tests.{ne-eqb}
 use lib.Dec.{eqb, lit≤}
 use lib.ListN.{length}
 use Rattle.laws.specs.Choice.{either}
@@ -68,6 +69,23 @@ changes-noted i s = count-from 0 i s ∙ omega arith
 
 pub changes-few : (s : List ℕ) → changes s ≤ length s
 changes-few s = omega (arith, changes-noted 0 s, ap length (text-notes 0 0 s), notes-few (rep 0) always 0 s)
+
+-- no change so far, and then in the rest
+abbrev pub kept : Bool → ℕ → Bool
+kept t b = t && unchanged b
+
+none-more : (b : ℕ) (s : List ℕ) → eqb (changes (b ∷ s)) 0 ≡ unchanged b && eqb (changes s) 0
+none-more b s = ap (λ (n : ℕ). eqb n 0) (changes-noted 0 (b ∷ s)) ∙ go (unchanged b)
+  where
+    go : (stays : Bool) → eqb (length (cond stays (textNotes 1 s) ((0 * 256 + b) ∷ textNotes 1 s))) 0 ≡ stays && eqb (changes s) 0
+    go true = ap (λ (n : ℕ). eqb n 0) (sym (changes-noted 1 s))
+    go false = ne-eqb (suc (length (textNotes 1 s))) 0 (λ (e : suc (length (textNotes 1 s)) ≡ 0). omega arith)
+
+pub none-fold : (t : Bool) (s : List ℕ) → fold kept t s ≡ t && eqb (changes s) 0
+unfolding changes
+none-fold t [] = sym (and-true t)
+none-fold t (b ∷ s) =
+    none-fold (t && unchanged b) s ∙ and-assoc t (unchanged b) (eqb (changes s) 0) ∙ ap (λ (u : Bool). t && u) (sym (none-more b s))
 
 -- a text with no change is as the table has it
 pub unchanged-text : (page : ℕ) (s : List ℕ) → changes s ≡ 0 → text page s ≡ s

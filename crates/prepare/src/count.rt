@@ -1,9 +1,11 @@
-// How many characters the table changes, field by field: as many as there are notes, whatever the page.
+// How many characters the table changes, field by field: as many as there are notes, whatever the page. And whether it
+// changes any.
 use records::Q;
 use records::T;
 use records::Z;
 ghost use mathlib.Core.Path.{_≡_};
 ghost use Prim.Native.Nat.{ℕ, _≤_};
+ghost use lib.Dec.{eqb};
 ghost use lib.ListN.{length};
 ghost use Rattle.forwarding.specs.Text.{qTexts, tTexts};
 ghost use Rattle.forwarding.specs.Forwarded.{notesOf};
@@ -30,6 +32,19 @@ pub fn field(s: &[u8]) -> usize
         i += 1;
     }
     n as usize
+}
+
+// Whether a text has none. The loop decides at the end only, so that it is compiled to many bytes a step.
+pub fn none(s: &[u8]) -> bool
+    ensures { λ r. ⌜ r ≡ eqb (changes (now (s .entry))) 0 ⌝ }
+{
+    let mut ok = true;
+    let mut i = 0;
+    while i < s.len() {
+        ok = ok & charset::unchanged(s[i]);
+        i += 1;
+    }
+    ok
 }
 
 fn q_record(rec: &[u8]) -> usize

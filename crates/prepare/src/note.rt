@@ -47,12 +47,12 @@ fn characters(s: &[u8], place: usize, notes: &mut [u32], have: usize) -> usize
     n
 }
 
-// Of a text field that stands at a place. Few have any: they are counted first.
+// Of a text field that stands at a place. Few have any.
 fn field(s: &[u8], place: usize, notes: &mut [u32], have: usize) -> usize
-    requires { ⌜ (length (now s) ≤ 140) × (place + length (now s) ≤ 7679744) × (have + length (textNotes place (now s)) ≤ length (now notes)) ⌝ }
+    requires { ⌜ (place + length (now s) ≤ 7679744) × (have + length (textNotes place (now s)) ≤ length (now notes)) ⌝ }
     ensures { λ r. ⌜ Noted (textNotes place (now (s .entry))) have (now (notes .entry)) (now (notes .exit)) r ⌝ }
 {
-    if crate::count::field(s) == 0 {
+    if crate::count::none(s) {
         return have;
     }
     characters(s, place, notes, have)

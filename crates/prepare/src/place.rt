@@ -13,12 +13,11 @@ ghost use Rattle.forwarding.specs.Put.{put};
 ghost use Rattle.forwarding.specs.Pieces.{sentIn};
 ghost use Rattle.prepare.specs.Sized.{Sized, zAt};
 
-// A text field in its stretch of the output. Few have anything to replace: that is counted first, many bytes a step.
+// A text field in its stretch of the output. Few have anything to replace.
 fn stretch(page: u32, field: &mut [u8])
-    requires { ⌜ length (now field) ≤ 140 ⌝ }
     ensures { λ _. ⌜ now (field .exit) ≡ text page (now (field .entry)) ⌝ }
 {
-    if crate::count::field(field) == 0 {
+    if crate::count::none(field) {
         return;
     }
     charset::replace(page, field);

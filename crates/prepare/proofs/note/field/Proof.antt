@@ -1,4 +1,5 @@
 use borrow.Author.Needs.{needs}
+use borrow.Author.Tests.{eqb-true}
 use mathlib.Core.Path.{sym, _∙_}
 use Rattle.forwarding.specs.Noted.{unchanged-noted}
 use Rattle.prepare.proofs.note.field.Statement.{statement}
@@ -7,7 +8,7 @@ use Rattle.prepare.proofs.note.field.Tie as tie
 returns : tie.Need-returns
 returns c =
     let a = c .before .before .before .before .args in
-    unchanged-noted (a .place) (a .s .now) (a .have) (a .notes .now) (sym (c .before .field .ensures) ∙ c .if1 .taken)
+    unchanged-noted (a .place) (a .s .now) (a .have) (a .notes .now) (eqb-true _ 0 (sym (c .before .none .ensures) ∙ c .if1 .taken))
 
 pub field-spec : {M : Type 1} → statement M
 field-spec =

@@ -3,7 +3,7 @@ use native.Mathlib.Omega.{arith}
 use mathlib.Core.Path.{ap}
 use lib.ListN.{length}
 use Rattle.forwarding.specs.Noted.{noted-is}
-use Rattle.prepare.specs.Found.{q-in, q-short, q-ends}
+use Rattle.prepare.specs.Found.{q-in, q-ends}
 use Rattle.prepare.specs.Noting.{q5-notes}
 use Rattle.prepare.proofs.note.q_record.Statement.{statement}
 use Rattle.prepare.proofs.note.q_record.Tie as tie
@@ -14,7 +14,7 @@ field-requires c κs =
     let rec = start .args .rec .now in
     let at = c .before .before .text .ensures in
     let bytes = c .before .part .ensures in
-    (q-short at rec bytes, omega (arith, q-ends at rec bytes), omega (arith, start .pre .1, ap length (q5-notes rec at bytes)))
+    (omega (arith, q-ends at rec bytes), omega (arith, start .pre .1, ap length (q5-notes rec at bytes)))
 
 returns : tie.Need-returns
 returns c =

@@ -7,7 +7,7 @@ use lib.ListN.{length}
 use Rattle.forwarding.specs.Fields.{fieldNotes}
 use Rattle.forwarding.specs.Numbered.{textsBelow}
 use Rattle.forwarding.specs.Noted.{Noted, noted-none, noted-length}
-use Rattle.prepare.specs.Found.{t-in, t-short, t-ends}
+use Rattle.prepare.specs.Found.{t-in, t-ends}
 use Rattle.prepare.specs.Noting.{field-fits, field-noted}
 use Rattle.prepare.proofs.note.t_record.Statement.{statement}
 use Rattle.prepare.proofs.note.t_record.Tie as tie
@@ -35,7 +35,6 @@ field-requires c κs =
     let l = c .before .before .before .before .before .loop in
     let at = c .before .before .before .text .ensures in
     let bytes = c .before .before .part .ensures in (
-      t-short (l .k) (search needs) (search needs) at rec bytes,
       omega (arith, start .pre .1, ends (c .before .before)),
       omega (arith, start .pre .2, l .inv .2, l .inv .3 .next-is, field-fits rec (l .k) (start .args .place) (search needs) (search needs) at bytes),
     )

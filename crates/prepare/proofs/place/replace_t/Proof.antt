@@ -2,16 +2,15 @@
 use borrow.Author.Needs.{needs}
 use native.Mathlib.Omega.{arith}
 use Prim.Native.Nat.{_-_, _≤_}
-use mathlib.Core.Path.{_≡_, refl, ap, _∙_}
+use mathlib.Core.Path.{_≡_, ap, _∙_}
 use lib.ListN.{length}
 use Rattle.charset.specs.Table.{rep}
-use Rattle.records.specs.Places.{part}
 use Rattle.records.specs.Inside.{Inside}
 use Rattle.forwarding.specs.Text.{lies}
 use Rattle.forwarding.specs.Forwarded.{fwd}
 use Rattle.forwarding.specs.Parts.{fwd-length}
 use Rattle.forwarding.specs.Numbered.{textsBelow}
-use Rattle.prepare.specs.Found.{t-in, t-short}
+use Rattle.prepare.specs.Found.{t-in}
 use Rattle.prepare.specs.Placing.{none-replaced, t-replaced}
 use Rattle.prepare.proofs.place.replace_t.Statement.{statement}
 use Rattle.prepare.proofs.place.replace_t.Tie as tie
@@ -27,12 +26,6 @@ here c =
     let start = c .before .before .before .before in
     let l = c .before .before .loop in
     t-in (l .k) (search needs) (search needs) (c .text .ensures) (l .rec) (ap length (l .inv .2) ∙ fwd-length _ _ 0 (start .args .rec .now) ∙ start .pre)
-
-stretch-requires : tie.Need-stretch-requires Inv-loop μ-loop
-unfolding part
-stretch-requires c κs =
-    let l = c .before .before .before .loop in
-    t-short (l .k) (search needs) (search needs) (c .before .text .ensures) (l .rec) refl
 
 loop-again : tie.Need-loop-again Inv-loop μ-loop
 loop-again c =
@@ -60,7 +53,7 @@ replace-t-spec =
     (λ c. here c .0)
     (λ c. here c .0)
     (λ c. here c .1)
-    stretch-requires
+    (λ c κs. search needs)
     (λ c. search needs)
     (λ c. search needs)
     loop-again

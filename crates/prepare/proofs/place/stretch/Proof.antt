@@ -1,4 +1,5 @@
 use borrow.Author.Needs.{needs}
+use borrow.Author.Tests.{eqb-true}
 use mathlib.Core.Path.{sym, _∙_}
 use Rattle.forwarding.specs.Changes.{unchanged-text}
 use Rattle.prepare.proofs.place.stretch.Statement.{statement}
@@ -7,7 +8,7 @@ use Rattle.prepare.proofs.place.stretch.Tie as tie
 returns : tie.Need-returns
 returns c =
     let a = c .before .before .before .before .args in
-    sym (unchanged-text (a .page) (a .field .now) (sym (c .before .field .ensures) ∙ c .if1 .taken))
+    sym (unchanged-text (a .page) (a .field .now) (eqb-true _ 0 (sym (c .before .none .ensures) ∙ c .if1 .taken)))
 
 pub stretch-spec : {M : Type 1} → statement M
 stretch-spec =
