@@ -6,14 +6,14 @@ use mathlib.Core.Bool.{Bool, true, false, _&&_, not, cond, and-true, and-assoc}
 use mathlib.Core.List.{List, [], _∷_, _++_}
 use native.Mathlib.Nat.{add-zero}
 use native.Mathlib.Omega.{arith}
-use borrow.Author.Tests.{ne-eqb}
+use borrow.Author.Tests.{eqb-true, ne-eqb}
 use lib.Dec.{eqb, lit≤}
 use lib.ListN.{length}
 use Rattle.laws.specs.Choice.{either}
 use Rattle.laws.specs.Steps.{fold}
 use Rattle.charset.specs.Table.{unchanged, rep, text, unchanged-rep, changes-are}
 use Rattle.forwarding.specs.Text.{textAt}
-use Rattle.forwarding.specs.Forwarded.{notes, notesOf}
+use Rattle.forwarding.specs.Forwarded.{fwd, notes, forwarded, notesOf}
 use Rattle.forwarding.specs.Parts.{always, notes-append, notes-few}
 
 -- the notes of a text, of which the first character stands at place i
@@ -99,6 +99,22 @@ unchanged-text page s e = go 0 s (sym (changes-noted 0 s) ∙ e)
             → (length (textNotes (suc i) s) ≡ 0 → text page s ≡ s) → text page (b ∷ s) ≡ b ∷ s
         by true q e rest = ap₂ _∷_ (unchanged-rep page b q) (rest e)
         by false q e rest = absurd (omega arith)
+
+-- a file without notes goes on as it is
+without-notes : (r : ℕ → ℕ) (t : ℕ → Bool) (i : ℕ) (xs : List ℕ) → length (notes r t i xs) ≡ 0 → fwd r t i xs ≡ xs
+without-notes r t i [] e = refl
+without-notes r t i (b ∷ xs) e = by (t i) (eqb (r b) b) refl e (without-notes r t (suc i) xs)
+  where
+    by : (in-text same : Bool) → eqb (r b) b ≡ same
+        → length (cond (in-text && not same) ((i * 256 + b) ∷ notes r t (suc i) xs) (notes r t (suc i) xs)) ≡ 0
+        → (length (notes r t (suc i) xs) ≡ 0 → fwd r t (suc i) xs ≡ xs) → cond in-text (r b) b ∷ fwd r t (suc i) xs ≡ b ∷ xs
+    by true true q e rest = ap₂ _∷_ (eqb-true (r b) b q) (rest e)
+    by true false q e rest = absurd (omega arith)
+    by false same q e rest = ap (λ (l : List ℕ). b ∷ l) (rest e)
+
+pub as-it-is : (page : ℕ) (file : List ℕ) → length (notesOf page file) ≡ 0 → forwarded page file ≡ file
+unfolding forwarded notesOf
+as-it-is page file e = without-notes (rep page) (textAt (length file)) 0 file e
 
 pub changed-few : (b : ℕ) → changed b ≤ 1
 changed-few b = either (λ (n : ℕ). n ≤ 1) (unchanged b) 0 1 (lit≤ tt) (lit≤ tt)

@@ -1,15 +1,17 @@
 -- The promise by what the code found: a refusal, which writes nothing, or success.
-use Prim.Native.Nat.{ℕ, _≤_, _<_}
+use Prim.Native.Nat.{ℕ, _+_, _≤_, _<_}
 use mathlib.Core.Path.{_≡_, refl, sym, ap, _∙_}
-use mathlib.Core.List.{List}
+use mathlib.Core.List.{List, [], _∷_, _++_}
 use native.Mathlib.Omega.{arith}
-use lib.ListN.{length}
+use lib.ListN.{length, take, drop}
+use lib.Seq.{take-all}
 use Rattle.laws.specs.Choice.{on-lt, off-lt, on-eq, off-eq}
 use Rattle.judge.specs.Verdict.{verdictOf}
 use Rattle.judge.specs.Told.{sound-fits}
 use Rattle.judge.specs.declared.Verdict.{Verdict}
 use Rattle.forwarding.specs.Forwarded.{forwarded, notesOf}
-use Rattle.forwarding.specs.Put.{put}
+use Rattle.forwarding.specs.Put.{put, put-none}
+use Rattle.forwarding.specs.Changes.{as-it-is}
 use Rattle.forwarding.specs.Noted.{Noted}
 use Rattle.prepare.specs.Sized.{Sized}
 use Rattle.prepare.specs.Prepared.{refused, done, sendOf, prepareBy, prepareOf, outputOf, notesAfter, SentAs, PreparedAs}
@@ -26,6 +28,10 @@ module _ (page : ℕ) (file : List ℕ) {r : Prepared} {number rec : ℕ} (e : r
   notes-kept : (notes : List ℕ) → notes ≡ notesAfter r page file notes
   notes-kept notes = off-eq _ no-zero refl
 
+empty : (xs : List ℕ) → length xs ≡ 0 → xs ≡ []
+empty [] e = refl
+empty (x ∷ xs) e = absurd (omega arith)
+
 module _ (page : ℕ) (file out notes : List ℕ) where
   refuses : {r : Prepared} {number rec : ℕ} → r ≡ refused number rec → 0 < number → refused number rec ≡ sendOf page file out notes
       → SentAs page file out notes r out notes
@@ -40,6 +46,24 @@ module _ (page : ℕ) (file out notes : List ℕ) where
     pub sent-61 : {r : Prepared} → r ≡ refused 61 0 → length notes < length (notesOf page file) → SentAs page file out notes r out notes
     unfolding sendOf
     sent-61 e h = refuses e (omega arith) (off-lt _ room (on-lt _ h refl))
+
+    -- nothing changes: the file goes on as it is
+    pub sent-same : {out' : List ℕ} → length (notesOf page file) ≡ 0 → out' ≡ take (length file) file ++ drop (length file) out
+        → SentAs page file out notes (done 0) out' notes
+    unfolding sendOf
+    sent-same none e =
+        let none-put : put 0 (notesOf page file) notes ≡ notes = ap (λ (l : List ℕ). put 0 l notes) (empty (notesOf page file) none) ∙ put-none 0 notes in
+        let from-0 : length file ≡ 0 + length file = omega arith in
+        let places : length (notesOf page file) ≤ length notes = omega (arith, none) in
+        record {
+          answer-is = off-lt (refused 60 0) room (off-lt (refused 61 0) places (ap done (sym none)));
+          out-is =
+              e
+              ∙ ap (λ (l : List ℕ). l ++ drop (length file) out) (take-all (length file) file (omega arith))
+              ∙ ap (λ (k : ℕ). file ++ drop k out) from-0
+              ∙ ap (λ (f : List ℕ). put 0 f out) (sym (as-it-is page file none));
+          notes-are = sym none-put;
+        }
 
     pub sent-0 : {n : ℕ} {out' notes' : List ℕ} → length (notesOf page file) ≤ length notes → out' ≡ put 0 (forwarded page file) out
         → Noted (notesOf page file) 0 notes notes' n → SentAs page file out notes (done n) out' notes'

@@ -40,7 +40,7 @@ fn forward(page: u32, file: &[u8], out: &mut [u8], notes: &mut [u32]) -> usize
     note::file(file, notes)
 }
 
-// The file to send, by its room: nothing is written before both are known.
+// The file to send, by its room: nothing is written before both are known. Where nothing changes, it goes on as it is.
 fn send(page: u32, file: &[u8], out: &mut [u8], notes: &mut [u32]) -> Prepared
     requires { ⌜ Sized (now file) ⌝ }
     ensures { λ r. ⌜ SentAs page (now (file .entry)) (now (out .entry)) (now (notes .entry)) r (now (out .exit)) (now (notes .exit)) ⌝ }
@@ -51,6 +51,14 @@ fn send(page: u32, file: &[u8], out: &mut [u8], notes: &mut [u32]) -> Prepared
     let changes = count::file(file);
     if notes.len() < changes {
         return refusal(61, 0);
+    }
+    if changes == 0 {
+        bytes::copy(file, out);
+        return Prepared {
+            number: 0,
+            rec: 0,
+            notes: 0,
+        };
     }
     let n = forward(page, file, out, notes);
     Prepared {
