@@ -11,10 +11,10 @@ use lib.Dec.{eqb, lit≤}
 use lib.ListN.{length}
 use Rattle.laws.specs.Choice.{either}
 use Rattle.laws.specs.Steps.{fold}
-use Rattle.charset.specs.Table.{unchanged, rep, text, unchanged-rep, changes-are}
+use Rattle.charset.specs.Table.{unchanged, rep, text, changes-are}
 use Rattle.forwarding.specs.Text.{textAt}
 use Rattle.forwarding.specs.Forwarded.{fwd, notes, forwarded, notesOf}
-use Rattle.forwarding.specs.Parts.{always, notes-append, notes-few}
+use Rattle.forwarding.specs.Parts.{always, fwd-always, notes-append, notes-few}
 
 -- the notes of a text, of which the first character stands at place i
 abbrev pub textNotes : ℕ → List ℕ → List ℕ
@@ -87,20 +87,7 @@ none-fold t [] = sym (and-true t)
 none-fold t (b ∷ s) =
     none-fold (t && unchanged b) s ∙ and-assoc t (unchanged b) (eqb (changes s) 0) ∙ ap (λ (u : Bool). t && u) (sym (none-more b s))
 
--- a text with no change is as the table has it
-pub unchanged-text : (page : ℕ) (s : List ℕ) → changes s ≡ 0 → text page s ≡ s
-unchanged-text page s e = go 0 s (sym (changes-noted 0 s) ∙ e)
-  where
-    go : (i : ℕ) (s : List ℕ) → length (textNotes i s) ≡ 0 → text page s ≡ s
-    go i [] e = refl
-    go i (b ∷ s) e = by (unchanged b) refl e (go (suc i) s)
-      where
-        by : (kept : Bool) → unchanged b ≡ kept → length (cond kept (textNotes (suc i) s) ((i * 256 + b) ∷ textNotes (suc i) s)) ≡ 0
-            → (length (textNotes (suc i) s) ≡ 0 → text page s ≡ s) → text page (b ∷ s) ≡ b ∷ s
-        by true q e rest = ap₂ _∷_ (unchanged-rep page b q) (rest e)
-        by false q e rest = absurd (omega arith)
-
--- a file without notes goes on as it is
+-- bytes without notes are forwarded as they are; so is a file, and a text with no change is as the table has it
 without-notes : (r : ℕ → ℕ) (t : ℕ → Bool) (i : ℕ) (xs : List ℕ) → length (notes r t i xs) ≡ 0 → fwd r t i xs ≡ xs
 without-notes r t i [] e = refl
 without-notes r t i (b ∷ xs) e = by (t i) (eqb (r b) b) refl e (without-notes r t (suc i) xs)
@@ -115,6 +102,10 @@ without-notes r t i (b ∷ xs) e = by (t i) (eqb (r b) b) refl e (without-notes 
 pub as-it-is : (page : ℕ) (file : List ℕ) → length (notesOf page file) ≡ 0 → forwarded page file ≡ file
 unfolding forwarded notesOf
 as-it-is page file e = without-notes (rep page) (textAt (length file)) 0 file e
+
+pub unchanged-text : (page : ℕ) (s : List ℕ) → changes s ≡ 0 → text page s ≡ s
+unchanged-text page s e =
+    sym (fwd-always (rep page) 0 s) ∙ without-notes (rep page) always 0 s (ap length (text-notes page 0 s) ∙ sym (changes-noted 0 s) ∙ e)
 
 pub changed-few : (b : ℕ) → changed b ≤ 1
 changed-few b = either (λ (n : ℕ). n ≤ 1) (unchanged b) 0 1 (lit≤ tt) (lit≤ tt)

@@ -10,8 +10,7 @@ use native.Mathlib.Omega.{arith}
 use borrow.Author.Tests.{eq-eqb, ne-eqb, eqb-true, ltb-true, not-true, not-false}
 use lib.Dec.{eqb, ltb, lit<, eqb·suc-zero}
 use lib.ListN.{length, getD}
-use Rattle.laws.specs.Choice.{either}
-use Rattle.laws.specs.Choice.{both}
+use Rattle.laws.specs.Choice.{either, both}
 use Rattle.charset.specs.Table.{unchanged, exceptions, look, rep, rep-rep}
 use Rattle.forwarding.specs.Text.{textAt}
 use Rattle.forwarding.specs.Forwarded.{fwd, differs, notes, forwarded, notesOf}
