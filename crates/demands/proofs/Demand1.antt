@@ -44,6 +44,11 @@ module _ (file transfer cheque : List ℕ) where
           let f = judged 0 transfer cheque file .first (eqb-false _ _ e) in
           inr (broken-rule (verdictOf 0 file transfer cheque .number) (verdictOf 0 file transfer cheque .rec) (f .turn) (f .there))
 
+-- or a number that a call has of its own
+wide : {A : Type 0} (n : ℕ) → (n ≡ 0) ⊎ FileRule n → (n ≡ 0) ⊎ (FileRule n ⊎ A)
+wide n (inl z) = inl z
+wide n (inr r) = inr (inl r)
+
 pub judge-numbers : JudgeNumbers
 unfolding judgeOf
 judge-numbers file transfer cheque taken =
@@ -52,10 +57,6 @@ judge-numbers file transfer cheque taken =
     let plain : Among verdict = wide (verdict .number) (told file transfer cheque) in
     either Among (eqb (verdict .number) 0) _ _
     (either Among (isTaken taken (fileNumber (slotAt file 0))) _ _ (inr (inr refl)) plain) plain
-  where
-    wide : (n : ℕ) → (n ≡ 0) ⊎ FileRule n → (n ≡ 0) ⊎ (FileRule n ⊎ (n ≡ 50))
-    wide n (inl z) = inl z
-    wide n (inr r) = inr (inl r)
 
 abbrev Prepares : Prepared → Type 0
 Prepares a = (a .number ≡ 0) ⊎ (FileRule (a .number) ⊎ ((a .number ≡ 60) ⊎ (a .number ≡ 61)))
@@ -67,10 +68,6 @@ prepares file transfer cheque out notes =
     (either Prepares (ltb (length out) (length file)) _ _ (inr (inr (inl refl)))
     (either Prepares (ltb (length notes) (length (notesOf 0 file))) _ _ (inr (inr (inr refl))) (inl refl)))
     (wide (verdictOf 0 file transfer cheque .number) (told file transfer cheque))
-  where
-    wide : (n : ℕ) → (n ≡ 0) ⊎ FileRule n → (n ≡ 0) ⊎ (FileRule n ⊎ ((n ≡ 60) ⊎ (n ≡ 61)))
-    wide n (inl z) = inl z
-    wide n (inr r) = inr (inl r)
 
 pub prepare-numbers : PrepareNumbers
 prepare-numbers file transfer cheque out notes out' notes' answer promise =
