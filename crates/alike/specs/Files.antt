@@ -23,8 +23,7 @@ use Rattle.judge.specs.First.{firstBroken}
 use Rattle.judge.specs.Content.{faultOf, ruleFrom, ruleEnd, contentOf}
 use Rattle.judge.specs.Sums.{euroSum, centSum}
 use Rattle.judge.specs.Verdict.{unless, sound, verdictBy, verdictOf}
-use Rattle.forwarding.specs.Text.{lies, qTexts, tTexts, textAt}
-use Rattle.forwarding.specs.Text.{text as textual}
+use Rattle.forwarding.specs.Text.{lies, qTexts, tTexts, textual, textAt}
 use Rattle.forwarding.specs.Forwarded.{fwd, forwarded}
 use Rattle.forwarding.specs.Parts.{fwd-length}
 use Rattle.forwarding.specs.Pieces.{text-q}
@@ -41,22 +40,22 @@ text-t k i h l =
     ∙ ap (lies tTexts) off
 
 module _ (page : ℕ) (file : List ℕ) where
-  T : ℕ → Bool
-  T = textAt (length file)
+  isText : ℕ → Bool
+  isText = textAt (length file)
 
   -- the slot of a forwarded file
-  slot-fwd : (k : ℕ) → slotAt (forwarded page file) k ≡ fwd (rep page) T (0 + recordAt k) (slotAt file k)
-  unfolding slotAt forwarded T
+  slot-fwd : (k : ℕ) → slotAt (forwarded page file) k ≡ fwd (rep page) isText (0 + recordAt k) (slotAt file k)
+  unfolding slotAt forwarded isText
   slot-fwd k =
       ap (take (widthAt k)) (fwd-drop (rep page) (textAt (length file)) (recordAt k) 0 file)
       ∙ fwd-take (rep page) (textAt (length file)) (widthAt k) (0 + recordAt k) (drop (recordAt k) file)
 
   slot-same : (k : ℕ) → length (slotAt (forwarded page file) k) ≡ length (slotAt file k)
-  slot-same k = ap length (slot-fwd k) ∙ fwd-length (rep page) T (0 + recordAt k) (slotAt file k)
+  slot-same k = ap length (slot-fwd k) ∙ fwd-length (rep page) isText (0 + recordAt k) (slotAt file k)
 
   -- no text among the first five offsets of a record
-  head-plain : (k i : ℕ) → i < 5 → T (recordAt k + i) ≡ false
-  unfolding T textAt
+  head-plain : (k i : ℕ) → i < 5 → isText (recordAt k + i) ≡ false
+  unfolding isText textAt
   head-plain k i h = ap (λ (b : Bool). ltb (recordAt k + i + 256) (length file) && b) (go (eqb k 0) refl) ∙ and-false (ltb (recordAt k + i + 256) (length file))
     where
       go : (b : Bool) → eqb k 0 ≡ b → textual (recordAt k + i) ≡ false
@@ -67,13 +66,13 @@ module _ (page : ℕ) (file : List ℕ) where
 
   head-same : (k : ℕ) → take 5 (slotAt (forwarded page file) k) ≡ take 5 (slotAt file k)
   head-same k =
-      ap (take 5) (slot-fwd k) ∙ fwd-take (rep page) T 5 (0 + recordAt k) (slotAt file k)
-      ∙ fwd-none (rep page) T (0 + recordAt k) (take 5 (slotAt file k)) at
+      ap (take 5) (slot-fwd k) ∙ fwd-take (rep page) isText 5 (0 + recordAt k) (slotAt file k)
+      ∙ fwd-none (rep page) isText (0 + recordAt k) (take 5 (slotAt file k)) at
     where
-      at : (j : ℕ) → 0 + recordAt k ≤ j → j < 0 + recordAt k + length (take 5 (slotAt file k)) → T j ≡ false
+      at : (j : ℕ) → 0 + recordAt k ≤ j → j < 0 + recordAt k + length (take 5 (slotAt file k)) → isText j ≡ false
       at j p q =
           let z : recordAt k + (j - recordAt k) ≡ j = omega arith in
-          subst (λ (i : ℕ). T i ≡ false) z (head-plain k (j - recordAt k) (omega (arith, length-take 5 (slotAt file k))))
+          subst (λ (i : ℕ). isText i ≡ false) z (head-plain k (j - recordAt k) (omega (arith, length-take 5 (slotAt file k))))
 
   letter-same : (k : ℕ) → letterOf (slotAt (forwarded page file) k) ≡ letterOf (slotAt file k)
   letter-same k =
@@ -104,8 +103,8 @@ module _ (page : ℕ) (file : List ℕ) where
         go true e l = omega (arith, place-is k, eqb-true k 0 e, fit .long, fit .some)
         go false e l = omega (arith, place-is k, eqb-false k 0 e, fit .long)
 
-    at-record : (k i : ℕ) → k ≤ n → i < widthAt k → T (0 + recordAt k + i) ≡ textual (recordAt k + i)
-    unfolding T textAt
+    at-record : (k i : ℕ) → k ≤ n → i < widthAt k → isText (0 + recordAt k + i) ≡ textual (recordAt k + i)
+    unfolding isText textAt
     at-record k i h l =
         let z : 0 + recordAt k + i ≡ recordAt k + i = omega arith in
         ap (textAt (length file)) z ∙ ap (λ (b : Bool). b && textual (recordAt k + i)) (inside k i h l)
@@ -113,33 +112,33 @@ module _ (page : ℕ) (file : List ℕ) where
     q-alike : Alike page qTexts (slotAt file 0) (slotAt (forwarded page file) 0)
     q-alike = subst (Alike page qTexts (slotAt file 0)) (sym (slot-fwd 0 ∙ from)) (alike page qTexts (slotAt file 0))
       where
-        at : (i : ℕ) → i < length (slotAt file 0) → T (0 + recordAt 0 + i) ≡ lies qTexts (0 + i)
+        at : (i : ℕ) → i < length (slotAt file 0) → isText (0 + recordAt 0 + i) ≡ lies qTexts (0 + i)
         at i l =
             let z : 0 + i ≡ i = omega arith in
             let short : i < 256 = omega (arith, slot-length file 0) in
             at-record 0 i (omega arith) short ∙ ap textual z ∙ text-q i short ∙ ap (lies qTexts) (sym z)
 
-        from : fwd (rep page) T (0 + recordAt 0) (slotAt file 0) ≡ fwd (rep page) (lies qTexts) 0 (slotAt file 0)
-        from = fwd-from (rep page) T (lies qTexts) (0 + recordAt 0) 0 (slotAt file 0) at
+        from : fwd (rep page) isText (0 + recordAt 0) (slotAt file 0) ≡ fwd (rep page) (lies qTexts) 0 (slotAt file 0)
+        from = fwd-from (rep page) isText (lies qTexts) (0 + recordAt 0) 0 (slotAt file 0) at
 
     t-alike : (k : ℕ) → 1 ≤ k → k ≤ n → Alike page tTexts (slotAt file k) (slotAt (forwarded page file) k)
     t-alike k h l = subst (Alike page tTexts (slotAt file k)) (sym (slot-fwd k ∙ from)) (alike page tTexts (slotAt file k))
       where
-        at : (i : ℕ) → i < length (slotAt file k) → T (0 + recordAt k + i) ≡ lies tTexts (0 + i)
+        at : (i : ℕ) → i < length (slotAt file k) → isText (0 + recordAt k + i) ≡ lies tTexts (0 + i)
         at i m =
             let z : 0 + i ≡ i = omega arith in
             let short : i < 768 = omega (arith, rw (later-width k h) at (slot-length file k)) in
             at-record k i l (rw (later-width k h) short) ∙ text-t k i h short ∙ ap (lies tTexts) (sym z)
 
-        from : fwd (rep page) T (0 + recordAt k) (slotAt file k) ≡ fwd (rep page) (lies tTexts) 0 (slotAt file k)
-        from = fwd-from (rep page) T (lies tTexts) (0 + recordAt k) 0 (slotAt file k) at
+        from : fwd (rep page) isText (0 + recordAt k) (slotAt file k) ≡ fwd (rep page) (lies tTexts) 0 (slotAt file k)
+        from = fwd-from (rep page) isText (lies tTexts) (0 + recordAt k) 0 (slotAt file k) at
 
     -- Z, and past it
     z-same : (k : ℕ) → n < k → slotAt (forwarded page file) k ≡ slotAt file k
-    unfolding T textAt
+    unfolding isText textAt
     z-same k h =
         slot-fwd k
-        ∙ fwd-none (rep page) T (0 + recordAt k) (slotAt file k)
+        ∙ fwd-none (rep page) isText (0 + recordAt k) (slotAt file k)
         (λ j p q. ap (λ (b : Bool). b && textual j) (le-ltb (j + 256) (length file) (omega (arith, place-is k, fit .long))))
 
     euros-same : (k : ℕ) → k ≤ n → euroSum (forwarded page file) k ≡ euroSum file k

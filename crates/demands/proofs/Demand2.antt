@@ -20,11 +20,10 @@ use Rattle.structure.specs.declared.Shape.the-variants.{Fits, Refused}
 use Rattle.judge.specs.Sums.{euroSum, centSum}
 use Rattle.judge.specs.First.{firstBroken}
 use Rattle.judge.specs.Content.{faultOf, ruleFrom, ruleEnd, contentOf, rule-real}
-use Rattle.judge.specs.Meaning.{FirstBroken, sound, broken}
-use Rattle.judge.specs.Verdict.{refused, unless, verdictOf}
-use Rattle.judge.specs.Verdict.{sound as soundWith}
+use Rattle.judge.specs.Meaning.{FirstBroken, none-broken, broken}
+use Rattle.judge.specs.Verdict.{refused, sound, unless, verdictOf}
 use Rattle.judge.specs.Told.{told-refused, told-fits}
-use Rattle.judge.specs.declared.Broken.{Broken as Found}
+use Rattle.judge.specs.declared.Breach.{Breach}
 use Rattle.judge.specs.declared.Verdict.{Verdict}
 use Rattle.demands.specs.Broken.{TooLong, Unfit, Wrong, Broken, Before, stage, walkRules, BrokenIn}
 use Rattle.demands.specs.Demand1.{ContentRule}
@@ -93,7 +92,7 @@ module _ (page : ℕ) (transfer cheque file : List ℕ) where
     by-wrong m j i f (inr (inl u)) = no-unfit file n fit m j i u
     by-wrong m j i f (inr (inr w)) = f w
 
-    answer : Found
+    answer : Breach
     answer = firstBroken F (ruleFrom n) (ruleEnd n) (n + 2)
 
     none-wrong : answer .number ≡ 0 → (m j i : ℕ) → Wrong page transfer cheque file m j i → ⊥
@@ -101,7 +100,7 @@ module _ (page : ℕ) (transfer cheque file : List ℕ) where
     none-wrong z m j i w =
         let f = wrong-f m j i w in
         let r = in-rules j m f in
-        f (sound F (ruleFrom n) (ruleEnd n) (rule-real n) (n + 2) z j (omega (arith, due-in m j i w)) m (r .0) (r .1))
+        f (none-broken F (ruleFrom n) (ruleEnd n) (rule-real n) (n + 2) z j (omega (arith, due-in m j i w)) m (r .0) (r .1))
 
     module _ (ne : answer .number ≡ 0 → ⊥) where
       found : FirstBroken F (ruleFrom n) (ruleEnd n) (rule-real n) (n + 2) answer
@@ -132,12 +131,12 @@ module _ (page : ℕ) (transfer cheque file : List ℕ) where
           let below : m < answer .number = omega (arith, w .turn, l) in
           f (ap (λ (k : ℕ). F k m) q ∙ found .rules-before m (subst (λ (k : ℕ). ruleFrom n k ≤ m) q (r .0)) below)
 
-    of-fits : Answered page transfer cheque file (unless answer (soundWith n (euroSum file n) (centSum file n)) .number)
-        (unless answer (soundWith n (euroSum file n) (centSum file n)) .rec)
+    of-fits : Answered page transfer cheque file (unless answer (sound n (euroSum file n) (centSum file n)) .number)
+        (unless answer (sound n (euroSum file n) (centSum file n)) .rec)
     of-fits = go (eqb (answer .number) 0) refl
       where
         v : Bool → Verdict
-        v t = cond t (soundWith n (euroSum file n) (centSum file n)) (refused (answer .number) (answer .rec))
+        v t = cond t (sound n (euroSum file n) (centSum file n)) (refused (answer .number) (answer .rec))
 
         go : (t : Bool) → eqb (answer .number) 0 ≡ t → Answered page transfer cheque file (v t .number) (v t .rec)
         go true e =

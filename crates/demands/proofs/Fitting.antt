@@ -16,7 +16,7 @@ use Rattle.payments.specs.Faults.{tFault}
 use Rattle.structure.specs.Slots.{slotAt}
 use Rattle.structure.specs.Walk.{letterOf, faultIn}
 use Rattle.structure.specs.Whole.{whole, letter-q, letter-t}
-use Rattle.structure.specs.Fits.{Due, Fit}
+use Rattle.structure.specs.Fits.{Reached, Fit}
 use Rattle.judge.specs.Sums.{euroSum}
 use Rattle.judge.specs.Content.{faultOf}
 use Rattle.judge.specs.ByKind.{of-q, of-t, of-z}
@@ -25,14 +25,14 @@ use Rattle.demands.proofs.Turns.{right-whole, due-walked}
 
 module _ (file : List ℕ) (n : ℕ) (fit : Fit file n) where
   -- the walk comes to no record after Z
-  pub due-to : (j : ℕ) → Due file j → j ≤ n + 1
+  pub due-to : (j : ℕ) → Reached file j → j ≤ n + 1
   due-to j due = go (leb j (n + 1)) refl
     where
       go : (b : Bool) → leb j (n + 1) ≡ b → j ≤ n + 1
       go true e = leb-true j (n + 1) e
       go false e = absurd (due (n + 1) (leb-false j (n + 1) e) .no-z (fit .z))
 
-  pub due-here : (j : ℕ) → j < n + 2 → Due file j
+  pub due-here : (j : ℕ) → j < n + 2 → Reached file j
   due-here j h i l = fit .due i (omega arith)
 
   pub right-here : (j : ℕ) → j ≤ n + 1 → faultIn j (slotAt file j) ≡ 0

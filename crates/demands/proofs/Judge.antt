@@ -16,13 +16,13 @@ use Rattle.structure.specs.declared.Shape.the-variants.{Fits, Refused}
 use Rattle.judge.specs.Sums.{euroSum, centSum, fileNumber}
 use Rattle.judge.specs.Content.{contentOf}
 use Rattle.judge.specs.Verdict.{refused, sound, unless, verdictBy, verdictOf, judgeOf}
-use Rattle.judge.specs.declared.Broken.{Broken as Found}
+use Rattle.judge.specs.declared.Breach.{Breach}
 use Rattle.judge.specs.declared.Verdict.{Verdict}
 use Rattle.demands.specs.Demand2.{Answered, JudgedAs, JudgeAnswers}
 use Rattle.demands.proofs.Demand2.{judged}
 
 -- a sound file is told at record 0
-sound-at-0 : (fault : Found) (n euros cents : ℕ) → unless fault (sound n euros cents) .number ≡ 0 → unless fault (sound n euros cents) .rec ≡ 0
+sound-at-0 : (fault : Breach) (n euros cents : ℕ) → unless fault (sound n euros cents) .number ≡ 0 → unless fault (sound n euros cents) .rec ≡ 0
 sound-at-0 fault n euros cents = go (eqb (fault .number) 0) refl
   where
     v : Bool → Verdict

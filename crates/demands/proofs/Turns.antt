@@ -11,7 +11,7 @@ use lib.ListN.{length}
 use Rattle.fields.specs.Class.{same}
 use Rattle.structure.specs.Slots.{slotAt}
 use Rattle.structure.specs.Walk.{letterOf, digitsOf, allowed, lengthFor, digitsFor, faultIn}
-use Rattle.structure.specs.Fits.{Due as Walked}
+use Rattle.structure.specs.Fits.{Reached}
 use Rattle.demands.specs.Broken.{walkRules, BrokenIn, Whole, Due}
 
 -- the first broken rule of a list, or 0
@@ -99,8 +99,8 @@ module _ (file : List ℕ) where
       none-in (walkRules k (slotAt file k)) (walk-within k (slotAt file k)) (fault-is k (slotAt file k) ∙ e) at number b
 
   -- the walk comes to the records that are due, and to no other
-  pub due-walked : (k : ℕ) → Due file k → Walked file k
+  pub due-walked : (k : ℕ) → Due file k → Reached file k
   due-walked k due j l = record { right = whole-right j (due j l .whole); no-z = due j l .no-z }
 
-  pub walked-due : (k : ℕ) → Walked file k → Due file k
+  pub walked-due : (k : ℕ) → Reached file k → Due file k
   walked-due k due j l = record { whole = right-whole j (due j l .right); no-z = due j l .no-z }

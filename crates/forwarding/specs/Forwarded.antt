@@ -11,16 +11,16 @@ use Rattle.forwarding.specs.Text.{textAt}
 
 -- by a table r, and by which places are text: the bytes, of which the first stands at place i
 abbrev pub fwd : (ℕ → ℕ) → (ℕ → Bool) → ℕ → List ℕ → List ℕ
-fwd r text i [] = []
-fwd r text i (b ∷ bytes) = cond (text i) (r b) b ∷ fwd r text (suc i) bytes
+fwd r isText i [] = []
+fwd r isText i (b ∷ bytes) = cond (isText i) (r b) b ∷ fwd r isText (suc i) bytes
 
 -- the byte b at place i is changed
 abbrev pub differs : (ℕ → ℕ) → (ℕ → Bool) → ℕ → ℕ → Bool
-differs r text i b = text i && not (eqb (r b) b)
+differs r isText i b = isText i && not (eqb (r b) b)
 
 abbrev pub notes : (ℕ → ℕ) → (ℕ → Bool) → ℕ → List ℕ → List ℕ
-notes r text i [] = []
-notes r text i (b ∷ bytes) = cond (differs r text i b) ((i * 256 + b) ∷ notes r text (suc i) bytes) (notes r text (suc i) bytes)
+notes r isText i [] = []
+notes r isText i (b ∷ bytes) = cond (differs r isText i b) ((i * 256 + b) ∷ notes r isText (suc i) bytes) (notes r isText (suc i) bytes)
 
 -- of a whole file, on a code page
 unfoldable pub forwarded : ℕ → List ℕ → List ℕ

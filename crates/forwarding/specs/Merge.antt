@@ -20,16 +20,16 @@ merged i (b ∷ bytes) (v ∷ notes) =
 
 -- the byte `was` is changed at place i, and becomes b
 abbrev pub becomes : (ℕ → ℕ) → (ℕ → Bool) → ℕ → ℕ → ℕ → Bool
-becomes r text i was b = differs r text i was && eqb (r was) b
+becomes r isText i was b = differs r isText i was && eqb (r was) b
 
 -- some bytes, of which the first stands at place i, have these forwarded bytes and these notes
 abbrev pub accepts : (ℕ → ℕ) → (ℕ → Bool) → ℕ → List ℕ → List ℕ → Bool
-accepts r text i [] [] = true
-accepts r text i [] (v ∷ notes) = false
-accepts r text i (b ∷ bytes) [] = not (differs r text i b) && accepts r text (suc i) bytes []
-accepts r text i (b ∷ bytes) (v ∷ notes) =
-    cond (eqb (v / 256) i) (becomes r text i (v % 256) b && accepts r text (suc i) bytes notes)
-    (not (differs r text i b) && accepts r text (suc i) bytes (v ∷ notes))
+accepts r isText i [] [] = true
+accepts r isText i [] (v ∷ notes) = false
+accepts r isText i (b ∷ bytes) [] = not (differs r isText i b) && accepts r isText (suc i) bytes []
+accepts r isText i (b ∷ bytes) (v ∷ notes) =
+    cond (eqb (v / 256) i) (becomes r isText i (v % 256) b && accepts r isText (suc i) bytes notes)
+    (not (differs r isText i b) && accepts r isText (suc i) bytes (v ∷ notes))
 
 -- of a whole forwarded file, on a code page
 unfoldable pub originalOf : List ℕ → List ℕ → List ℕ

@@ -19,9 +19,9 @@ lies [] i = false
 lies (s ∷ ss) i = (leb (s .start) i && ltb i (s .end)) || lies ss i
 
 -- the text places of a file that never ends: Q, and then T records of 768 bytes
-unfoldable pub text : ℕ → Bool
-text i = cond (ltb i 256) (lies qTexts i) (lies tTexts ((i - 256) % 768))
+unfoldable pub textual : ℕ → Bool
+textual i = cond (ltb i 256) (lies qTexts i) (lies tTexts ((i - 256) % 768))
 
 -- those of a file of n bytes, whose last 256 are Z
 unfoldable pub textAt : ℕ → ℕ → Bool
-textAt n i = ltb (i + 256) n && text i
+textAt n i = ltb (i + 256) n && textual i

@@ -19,19 +19,19 @@ use Rattle.records.specs.Places.{recordAt}
 use Rattle.structure.specs.Slots.{slotAt, place-is, later-width}
 use Rattle.structure.specs.Walk.{letterOf, faultIn, structureOf}
 use Rattle.structure.specs.Whole.{whole, letter-q, letter-t}
-use Rattle.structure.specs.Fits.{Passed, Fit, fits, fit-found}
+use Rattle.structure.specs.Fits.{WalksOn, Fit, fits, fit-found}
 use Rattle.structure.specs.declared.Shape.the-variants.{Fits}
 use Rattle.judge.specs.Content.{faultOf, ruleFrom, ruleEnd, contentOf, rule-real}
-use Rattle.judge.specs.Meaning.{sound, complete}
+use Rattle.judge.specs.Meaning.{none-broken, complete}
 use Rattle.judge.specs.Sums.{total, euros, euroSum}
 use Rattle.judge.specs.Verdict.{refused, unless, verdictOf}
 use Rattle.judge.specs.declared.Verdict.{Verdict}
-use Rattle.judge.specs.declared.Broken.{Broken}
+use Rattle.judge.specs.declared.Breach.{Breach}
 use Rattle.judge.specs.Told.{sound-fits, told-fits}
 use Rattle.judge.specs.ByKind.{of-q, of-t, of-z}
 
 -- the number of a verdict is that of the first broken rule
-unless-number : (b : Broken) (v : Verdict) → v .number ≡ 0 → unless b v .number ≡ b .number
+unless-number : (b : Breach) (v : Verdict) → v .number ≡ 0 → unless b v .number ≡ b .number
 unless-number b v z = go (eqb (b .number) 0) refl
   where
     go : (t : Bool) → eqb (b .number) 0 ≡ t → cond t v (refused (b .number) (b .rec)) .number ≡ b .number
@@ -150,10 +150,10 @@ module _ (q : List ℕ) (ts : List (List ℕ)) (z : List ℕ) (sized : Sized q t
       no-z-by : {a letter : ℕ} → a ≡ letter → eqb letter (code "Z") ≡ false → a ≡ code "Z" → ⊥
       no-z-by e n q = eqb-false _ _ n (sym e ∙ q)
 
-      due : (j : ℕ) (b : Bool) → eqb j 0 ≡ b → j < length ts + 1 → Passed (fileOf q ts z) j
+      due : (j : ℕ) (b : Bool) → eqb j 0 ≡ b → j < length ts + 1 → WalksOn (fileOf q ts z) j
       due j true e l =
           let at : j ≡ 0 = eqb-true j 0 e in
-          subst (Passed (fileOf q ts z)) (sym at)
+          subst (WalksOn (fileOf q ts z)) (sym at)
           (record { right = fault-at 0 slot-q (h .q-head); no-z = no-z-by (ap letterOf slot-q ∙ q-letter) refl })
         where
           q-letter : letterOf q ≡ code "Q"
@@ -161,7 +161,7 @@ module _ (q : List ℕ) (ts : List (List ℕ)) (z : List ℕ) (sized : Sized q t
       due j false e l =
           let back : j - 1 + 1 ≡ j = omega (arith, eqb-false j 0 e) in
           let in-ts : j - 1 < length ts = omega (arith, eqb-false j 0 e) in
-          subst (Passed (fileOf q ts z)) back
+          subst (WalksOn (fileOf q ts z)) back
           (record {
             right = fault-at (j - 1 + 1) (slot-t (j - 1) in-ts) (h .t-head (j - 1) in-ts);
             no-z = no-z-by (ap letterOf (slot-t (j - 1) in-ts) ∙ h .t-letter (j - 1) in-ts) refl;
@@ -252,7 +252,7 @@ module _ (q : List ℕ) (ts : List (List ℕ)) (z : List ℕ) (sized : Sized q t
     content-held : contentOf page (fileOf q ts z) (length ts) (euroSum (fileOf q ts z) (length ts)) transfer cheque .number ≡ 0
         → (k : ℕ) → k < length ts + 2 → Held k
     unfolding contentOf F
-    content-held e = sound F (ruleFrom (length ts)) (ruleEnd (length ts)) (rule-real (length ts)) (length ts + 2) e
+    content-held e = none-broken F (ruleFrom (length ts)) (ruleEnd (length ts)) (rule-real (length ts)) (length ts + 2) e
 
     held-content : ((k : ℕ) → k < length ts + 2 → Held k)
         → contentOf page (fileOf q ts z) (length ts) (euroSum (fileOf q ts z) (length ts)) transfer cheque .number ≡ 0

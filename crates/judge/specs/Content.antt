@@ -9,7 +9,7 @@ use Rattle.payments.specs.Rules.{keyOf}
 use Rattle.rules.specs.Faults.{qFault, zFault}
 use Rattle.payments.specs.Faults.{tFault}
 use Rattle.judge.specs.First.{firstBroken}
-use Rattle.judge.specs.declared.Broken.{Broken}
+use Rattle.judge.specs.declared.Breach.{Breach}
 
 -- what a rule says of record k of a file with n T records, whose T14a sum up to euros
 unfoldable pub faultOf : ℕ → List ℕ → ℕ → ℕ → List ℕ → List ℕ → ℕ → ℕ → ℕ
@@ -24,7 +24,7 @@ ruleFrom n k = cond (eqb k 0) 10 (cond (leb k n) 20 40)
 abbrev pub ruleEnd : ℕ → ℕ → ℕ
 ruleEnd n k = cond (eqb k 0) 17 (cond (leb k n) 36 43)
 
-unfoldable pub contentOf : ℕ → List ℕ → ℕ → ℕ → List ℕ → List ℕ → Broken
+unfoldable pub contentOf : ℕ → List ℕ → ℕ → ℕ → List ℕ → List ℕ → Breach
 contentOf page file n euros transfer cheque =
     firstBroken (faultOf page file n euros transfer cheque) (ruleFrom n) (ruleEnd n) (n + 2)
 

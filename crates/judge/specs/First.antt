@@ -7,7 +7,7 @@ use native.Mathlib.Omega.{arith}
 use lib.Dec.{eqb}
 use Rattle.laws.specs.Choice.{on-ne}
 use Rattle.laws.specs.Scan.{first, orElse}
-use Rattle.judge.specs.declared.Broken.{Broken}
+use Rattle.judge.specs.declared.Breach.{Breach}
 
 abbrev pub breaks : (ℕ → ℕ → ℕ) → ℕ → ℕ → Bool
 breaks F k rule = not (eqb (F k rule) 0)
@@ -19,21 +19,21 @@ firstRule F lo hi k = first (breaks F k) (λ rule. rule) 0 (lo k) (hi k)
 abbrev pub faulty : (ℕ → ℕ → ℕ) → (ℕ → ℕ) → (ℕ → ℕ) → ℕ → Bool
 faulty F lo hi k = not (eqb (firstRule F lo hi k) 0)
 
-abbrev pub toldAt : (ℕ → ℕ → ℕ) → (ℕ → ℕ) → (ℕ → ℕ) → ℕ → Broken
+abbrev pub toldAt : (ℕ → ℕ → ℕ) → (ℕ → ℕ) → (ℕ → ℕ) → ℕ → Breach
 toldAt F lo hi k = record { number = firstRule F lo hi k; rec = k }
 
-abbrev pub none : Broken
+abbrev pub none : Breach
 none = record { number = 0; rec = 0 }
 
 -- the first broken rule of the first record that breaks one, of the records below n
-abbrev pub firstBroken : (ℕ → ℕ → ℕ) → (ℕ → ℕ) → (ℕ → ℕ) → ℕ → Broken
+abbrev pub firstBroken : (ℕ → ℕ → ℕ) → (ℕ → ℕ) → (ℕ → ℕ) → ℕ → Breach
 firstBroken F lo hi n = first (faulty F lo hi) (toldAt F lo hi) none 0 n
 
-pub same-fault : {a b c d : ℕ} → a ≡ c → b ≡ d → _≡_ {A = Broken} (record { number = a; rec = b }) (record { number = c; rec = d })
+pub same-fault : {a b c d : ℕ} → a ≡ c → b ≡ d → _≡_ {A = Breach} (record { number = a; rec = b }) (record { number = c; rec = d })
 same-fault p q i = record { number = p i; rec = q i }
 
 -- a record whose first broken rule is known is told so
-pub found : (F : ℕ → ℕ → ℕ) (lo hi : ℕ → ℕ) (k rule : ℕ) (rest : Broken) → 0 < rule → rule ≡ firstRule F lo hi k
+pub found : (F : ℕ → ℕ → ℕ) (lo hi : ℕ → ℕ) (k rule : ℕ) (rest : Breach) → 0 < rule → rule ≡ firstRule F lo hi k
     → record { number = rule; rec = k } ≡ orElse (faulty F lo hi) (toldAt F lo hi) k rest
 found F lo hi k rule rest p e =
     on-ne {r = firstRule F lo hi k} rest refl (λ q. omega arith) (same-fault e refl)

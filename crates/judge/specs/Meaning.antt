@@ -7,7 +7,7 @@ use native.Mathlib.Omega.{arith}
 use borrow.Author.Tests.{eqb-true, eqb-false, not-true, not-false}
 use lib.Dec.{eqb}
 use Rattle.laws.specs.Scan.{Means, means}
-use Rattle.judge.specs.declared.Broken.{Broken}
+use Rattle.judge.specs.declared.Breach.{Breach}
 use Rattle.judge.specs.First.{breaks, firstRule, faulty, toldAt, none, firstBroken}
 
 -- of a number x, with the test that it is not 0
@@ -23,7 +23,7 @@ module _ (F : ℕ → ℕ → ℕ) (lo hi : ℕ → ℕ) (pos : (k : ℕ) → 0 
   Holds k = (r : ℕ) → lo k ≤ r → r < hi k → F k r ≡ 0
 
   -- b is broken, and none before it is
-  pub record FirstBroken (n : ℕ) (b : Broken) : Type 0 where
+  pub record FirstBroken (n : ℕ) (b : Breach) : Type 0 where
     pub below : b .rec < n
     pub rule-from : lo (b .rec) ≤ b .number
     pub rule-below : b .number < hi (b .rec)
@@ -60,20 +60,20 @@ module _ (F : ℕ → ℕ → ℕ) (lo hi : ℕ → ℕ) (pos : (k : ℕ) → 0 
           }
 
   -- 0 only where every rule holds
-  pub sound : (n : ℕ) → firstBroken F lo hi n .number ≡ 0 → (k : ℕ) → k < n → Holds k
-  sound n e = by (firstBroken F lo hi n) e (means (faulty F lo hi) (toldAt F lo hi) none 0 n)
+  pub none-broken : (n : ℕ) → firstBroken F lo hi n .number ≡ 0 → (k : ℕ) → k < n → Holds k
+  none-broken n e = by (firstBroken F lo hi n) e (means (faulty F lo hi) (toldAt F lo hi) none 0 n)
     where
-      by : (b : Broken) → b .number ≡ 0 → Means (faulty F lo hi) (toldAt F lo hi) none 0 n b → (k : ℕ) → k < n → Holds k
+      by : (b : Breach) → b .number ≡ 0 → Means (faulty F lo hi) (toldAt F lo hi) none 0 n b → (k : ℕ) → k < n → Holds k
       by b e (inl p) k l = rules-hold k (is-zero (firstRule F lo hi k) (p .1 k (omega arith) l))
       by b e (inr p) k l =
-          absurd (not-zero (firstRule F lo hi (p .place)) (p .holds) (sym (ap (λ (o : Broken). o .number) (p .answer)) ∙ e))
+          absurd (not-zero (firstRule F lo hi (p .place)) (p .holds) (sym (ap (λ (o : Breach). o .number) (p .answer)) ∙ e))
 
   -- and an answer that is not 0 is the first broken rule
   pub broken : (n : ℕ) → (firstBroken F lo hi n .number ≡ 0 → ⊥) → FirstBroken n (firstBroken F lo hi n)
   broken n f = by (firstBroken F lo hi n) f (means (faulty F lo hi) (toldAt F lo hi) none 0 n)
     where
-      by : (b : Broken) → (b .number ≡ 0 → ⊥) → Means (faulty F lo hi) (toldAt F lo hi) none 0 n b → FirstBroken n b
-      by b f (inl p) = absurd (f (ap (λ (o : Broken). o .number) (p .0)))
+      by : (b : Breach) → (b .number ≡ 0 → ⊥) → Means (faulty F lo hi) (toldAt F lo hi) none 0 n b → FirstBroken n b
+      by b f (inl p) = absurd (f (ap (λ (o : Breach). o .number) (p .0)))
       by b f (inr p) =
           rw (p .answer)
           (rule-at n (p .place) (p .below) (not-zero (firstRule F lo hi (p .place)) (p .holds))

@@ -14,7 +14,7 @@ use Rattle.fields.specs.Class.{same}
 use Rattle.fields.specs.Lists.{isTaken}
 use Rattle.structure.specs.Slots.{slotAt}
 use Rattle.structure.specs.Walk.{letterOf, digitsOf, digitsFor, lengthFor, allowed, faultIn, structureOf}
-use Rattle.structure.specs.Fits.{Due, Tells, tells, passed-room}
+use Rattle.structure.specs.Fits.{Reached, Tells, tells, passed-room}
 use Rattle.structure.specs.declared.Shape.{Shape}
 use Rattle.structure.specs.declared.Shape.the-variants.{Fits, Refused}
 use Rattle.judge.specs.First.{firstBroken}
@@ -40,7 +40,7 @@ fault-small k slot =
     (lit≤ tt))
 
 -- a file of at most 7,679,744 bytes has no record after 10,000
-due-small : (file : List ℕ) (k : ℕ) → length file ≤ 7679744 → Due file k → k ≤ 10000
+due-small : (file : List ℕ) (k : ℕ) → length file ≤ 7679744 → Reached file k → k ≤ 10000
 due-small file k short due = go (leb k 10000) refl
   where
     go : (b : Bool) → leb k 10000 ≡ b → k ≤ 10000

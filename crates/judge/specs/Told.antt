@@ -15,7 +15,7 @@ use Rattle.structure.specs.declared.Shape.the-variants.{Fits, Refused}
 use Rattle.judge.specs.Content.{contentOf}
 use Rattle.judge.specs.Sums.{euroSum, centSum, fileNumber}
 use Rattle.judge.specs.Verdict.{refused, sound, unless, verdictBy, verdictOf, orTaken, judgeOf}
-use Rattle.judge.specs.declared.Broken.{Broken}
+use Rattle.judge.specs.declared.Breach.{Breach}
 use Rattle.judge.specs.declared.Verdict.{Verdict}
 
 module _ (page : ℕ) (file transfer cheque : List ℕ) where
@@ -29,7 +29,7 @@ module _ (page : ℕ) (file transfer cheque : List ℕ) where
   unfolding verdictOf
   told-fits n e = ap (λ (s : Shape). verdictBy s page file transfer cheque) (sym e)
 
-  module _ (n euros cents : ℕ) (b : Broken) (e : structureOf file ≡ Fits n) (p : euros ≡ euroSum file n) (q : cents ≡ centSum file n)
+  module _ (n euros cents : ℕ) (b : Breach) (e : structureOf file ≡ Fits n) (p : euros ≡ euroSum file n) (q : cents ≡ centSum file n)
       (r : b ≡ contentOf page file n euros transfer cheque) where
     by-content : unless b (sound n euros cents) ≡ verdictOf page file transfer cheque
     by-content =

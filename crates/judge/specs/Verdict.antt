@@ -10,7 +10,7 @@ use Rattle.structure.specs.declared.Shape.{Shape}
 use Rattle.structure.specs.declared.Shape.the-variants.{Fits, Refused}
 use Rattle.judge.specs.Content.{contentOf}
 use Rattle.judge.specs.Sums.{euroSum, centSum, fileNumber}
-use Rattle.judge.specs.declared.Broken.{Broken}
+use Rattle.judge.specs.declared.Breach.{Breach}
 use Rattle.judge.specs.declared.Verdict.{Verdict}
 
 -- "If refused, these three are 0."
@@ -22,7 +22,7 @@ abbrev pub sound : ℕ → ℕ → ℕ → Verdict
 sound payments euros cents = record { number = 0; rec = 0; payments = payments; euros = euros; cents = cents }
 
 -- the refusal of the first broken rule, or else the answer of a sound file
-abbrev pub unless : Broken → Verdict → Verdict
+abbrev pub unless : Breach → Verdict → Verdict
 unless fault verdict = cond (eqb (fault .number) 0) verdict (refused (fault .number) (fault .rec))
 
 -- the number and the values of each case of the walk

@@ -12,7 +12,7 @@ ghost use Rattle.judge.specs.Sums.{euros, cents, euroSum, centSum, fileN
 ghost use Rattle.judge.specs.Verdict.{refused, verdictOf, judgeOf};
 
 // The first broken rule and its record; number 0 where none is broken.
-pub struct Broken {
+pub struct Breach {
     pub number: usize,
     pub rec: usize,
 }
@@ -78,7 +78,7 @@ fn rule_end(n: usize, k: usize) -> usize
 }
 
 // The first broken rule ends the judgement there.
-fn content(page: u32, file: &[u8], n: usize, euros: u64, transfer: &[u8], cheque: &[u8]) -> Broken
+fn content(page: u32, file: &[u8], n: usize, euros: u64, transfer: &[u8], cheque: &[u8]) -> Breach
     requires { ⌜ (length (now file) ≡ 512 + 768 * n) × ((1 ≤ n) × (n ≤ 9999)) ⌝ }
     ensures { λ r. ⌜ r ≡ contentOf page (now (file .entry)) n euros (now (transfer .entry)) (now (cheque .entry)) ⌝ }
 {
@@ -98,7 +98,7 @@ fn content(page: u32, file: &[u8], n: usize, euros: u64, transfer: &[u8], cheque
         }
         k += 1;
     }
-    Broken { number, rec }
+    Breach { number, rec }
 }
 
 // What a payment adds to the sums: whole euros, and cents.

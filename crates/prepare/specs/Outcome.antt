@@ -14,15 +14,15 @@ use Rattle.forwarding.specs.Put.{put, put-none}
 use Rattle.forwarding.specs.Changes.{as-it-is}
 use Rattle.forwarding.specs.Noted.{Noted}
 use Rattle.prepare.specs.Sized.{Sized}
-use Rattle.prepare.specs.Prepared.{refused, done, sendOf, prepareBy, prepareOf, outputOf, notesAfter, SentAs, PreparedAs}
+use Rattle.prepare.specs.Prepared.{notPrepared, done, sendOf, prepareBy, prepareOf, outputAfter, notesAfter, SentAs, PreparedAs}
 use Rattle.prepare.specs.declared.Prepared.{Prepared}
 
 -- a refusal leaves the output and the note places as they are
-module _ (page : ℕ) (file : List ℕ) {r : Prepared} {number rec : ℕ} (e : r ≡ refused number rec) (some : 0 < number) where
+module _ (page : ℕ) (file : List ℕ) {r : Prepared} {number rec : ℕ} (e : r ≡ notPrepared number rec) (some : 0 < number) where
   no-zero : r .number ≡ 0 → ⊥
   no-zero z = omega (arith, ap (λ (r : Prepared). r .number) e)
 
-  out-kept : (out : List ℕ) → out ≡ outputOf r page file out
+  out-kept : (out : List ℕ) → out ≡ outputAfter r page file out
   out-kept out = off-eq _ no-zero refl
 
   notes-kept : (notes : List ℕ) → notes ≡ notesAfter r page file notes
@@ -33,17 +33,17 @@ empty [] e = refl
 empty (x ∷ xs) e = absurd (omega arith)
 
 module _ (page : ℕ) (file out notes : List ℕ) where
-  refuses : {r : Prepared} {number rec : ℕ} → r ≡ refused number rec → 0 < number → refused number rec ≡ sendOf page file out notes
+  refuses : {r : Prepared} {number rec : ℕ} → r ≡ notPrepared number rec → 0 < number → notPrepared number rec ≡ sendOf page file out notes
       → SentAs page file out notes r out notes
   refuses e some q =
       record { answer-is = e ∙ q; out-is = out-kept page file e some out; notes-are = notes-kept page file e some notes }
 
-  pub sent-60 : {r : Prepared} → r ≡ refused 60 0 → length out < length file → SentAs page file out notes r out notes
+  pub sent-60 : {r : Prepared} → r ≡ notPrepared 60 0 → length out < length file → SentAs page file out notes r out notes
   unfolding sendOf
   sent-60 e h = refuses e (omega arith) (on-lt _ h refl)
 
   module _ (room : length file ≤ length out) where
-    pub sent-61 : {r : Prepared} → r ≡ refused 61 0 → length notes < length (notesOf page file) → SentAs page file out notes r out notes
+    pub sent-61 : {r : Prepared} → r ≡ notPrepared 61 0 → length notes < length (notesOf page file) → SentAs page file out notes r out notes
     unfolding sendOf
     sent-61 e h = refuses e (omega arith) (off-lt _ room (on-lt _ h refl))
 
@@ -56,7 +56,7 @@ module _ (page : ℕ) (file out notes : List ℕ) where
         let from-0 : length file ≡ 0 + length file = omega arith in
         let places : length (notesOf page file) ≤ length notes = omega (arith, none) in
         record {
-          answer-is = off-lt (refused 60 0) room (off-lt (refused 61 0) places (ap done (sym none)));
+          answer-is = off-lt (notPrepared 60 0) room (off-lt (notPrepared 61 0) places (ap done (sym none)));
           out-is =
               e
               ∙ ap (λ (l : List ℕ). l ++ drop (length file) out) (take-all (length file) file (omega arith))
@@ -71,7 +71,7 @@ module _ (page : ℕ) (file out notes : List ℕ) where
     sent-0 {n} places e noted =
         let all : n ≡ length (notesOf page file) = omega (arith, noted .next-is) in
         record {
-          answer-is = off-lt (refused 60 0) room (off-lt (refused 61 0) places (ap done all));
+          answer-is = off-lt (notPrepared 60 0) room (off-lt (notPrepared 61 0) places (ap done all));
           out-is = e;
           notes-are = noted .places-are;
         }
@@ -88,7 +88,7 @@ module _ (page : ℕ) (file transfer cheque : List ℕ) {v : Verdict} (e : v ≡
     unfolding prepareOf
     by-verdict q = q ∙ ap (λ (v : Verdict). prepareBy v page file out notes) e
 
-    pub prepared-refused : {r : Prepared} → (v .number ≡ 0 → ⊥) → r ≡ refused (v .number) (v .rec)
+    pub prepared-refused : {r : Prepared} → (v .number ≡ 0 → ⊥) → r ≡ notPrepared (v .number) (v .rec)
         → PreparedAs page file transfer cheque out notes r out notes
     prepared-refused real q =
         record {

@@ -6,7 +6,7 @@ ghost use Rattle.forwarding.specs.Forwarded.{forwarded, notesOf};
 ghost use Rattle.forwarding.specs.Put.{put};
 ghost use Rattle.forwarding.specs.Noted.{Noted};
 ghost use Rattle.prepare.specs.Sized.{Sized};
-ghost use Rattle.prepare.specs.Prepared.{refused, SentAs, PreparedAs};
+ghost use Rattle.prepare.specs.Prepared.{notPrepared, SentAs, PreparedAs};
 
 pub mod count;
 mod note;
@@ -21,7 +21,7 @@ pub struct Prepared {
 }
 
 fn refusal(number: usize, rec: usize) -> Prepared
-    ensures { λ r. ⌜ r ≡ refused number rec ⌝ }
+    ensures { λ r. ⌜ r ≡ notPrepared number rec ⌝ }
 {
     Prepared {
         number,

@@ -12,7 +12,7 @@ use Rattle.records.specs.declared.TField.{TField}
 use Rattle.records.specs.declared.TField.the-variants.{T3, T4a, T4b, T5, T6, T7a, T7b, T8, T9a, T9b, T10a, T10b, T11, T12, T13, T14a, T14b, T15, T16, T17, T18, T19, T20, T21, T22, T23, T24, T25, T26, T27}
 use Rattle.records.specs.declared.ZField.{ZField}
 use Rattle.records.specs.declared.ZField.the-variants.{Z3, Z4, Z5}
-use Rattle.records.specs.Places.{qPlace, tPlace, zPlace, part, qText, tText}
+use Rattle.records.specs.Places.{qPlace, tPlace, zPlace, part, PartOf, qText, tText}
 use Rattle.laws.specs.Choice.{either}
 
 abbrev pub Inside : ℕ → Span → Type 0
@@ -79,9 +79,11 @@ pub record Held (s : Span) (rec xs : List ℕ) : Type 0 where
   pub bytes : xs ≡ part s rec
   pub long : length xs ≡ s .end - s .start
 
-pub held : {n : ℕ} {xs : List ℕ} (s : Span) (rec : List ℕ) → xs ≡ part s rec → Inside n s → length rec ≡ n → Held s rec xs
+pub held : {n : ℕ} {from at : ℕ × ℕ} {xs : List ℕ} {r s : Span} (rec : List ℕ) → PartOf r from rec at xs → r ≡ s → Inside n s
+    → length rec ≡ n → Held s rec xs
 unfolding part
-held s rec e h l =
+held {s = s} rec p q h l =
+    let e = p .holds ∙ ap (λ (s : Span). part s rec) q in
     record { bytes = e; long = ap length e ∙ simp (length-take, length-drop) (omega (arith, h .0, h .1)) }
 
 -- every text field lies in its record; a number that is none is nowhere

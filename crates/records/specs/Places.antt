@@ -3,6 +3,7 @@
 -- Laws: the fields of each kind follow one another without gap or overlap from 5 to the record's end, and the four lines
 -- of a field of 140 bytes do so in it.
 use Prim.Native.Nat.{ℕ, _+_, _*_, _-_}
+use mathlib.Core.Path.{_≡_}
 use mathlib.Core.Bool.{Bool, _&&_, cond}
 use mathlib.Core.List.{List, [], _∷_}
 use lib.Dec.{eqb, leb, T}
@@ -79,6 +80,12 @@ lineOf s k = record { start = s .start + 35 * (k - 1); end = s .start + 35 * k }
 -- the bytes at a place
 unfoldable pub part : Span → List ℕ → List ℕ
 part s rec = take (s .end - s .start) (drop (s .start) rec)
+
+-- "the very part of the caller's bytes": memory is blocks, and a place in it is a block and an offset there. Of bytes that
+-- begin at `from`, the part at s begins at `at`, and is those bytes
+pub record PartOf (s : Span) (from : ℕ × ℕ) (bytes : List ℕ) (at : ℕ × ℕ) (xs : List ℕ) : Type 0 where
+  pub there : at ≡ (from .0, s .start + from .1)
+  pub holds : xs ≡ part s bytes
 
 -- "Text fields, numbered for display": each with its number; a record has no other
 abbrev pub nowhere : Span

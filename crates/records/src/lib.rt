@@ -1,9 +1,10 @@
 // The record kinds, and where their fields stand.
 ghost use mathlib.Core.Path.{_≡_};
 ghost use Prim.Native.Nat.{_≤_, _<_};
+ghost use denote.Ref.{ptr};
 ghost use lib.ListN.{length};
 ghost use Rattle.records.specs.Inside.{Held};
-ghost use Rattle.records.specs.Places.{_to_, recordAt, lineOf, part, qPlace, tPlace, zPlace, qText, tText};
+ghost use Rattle.records.specs.Places.{_to_, recordAt, lineOf, PartOf, qPlace, tPlace, zPlace, qText, tText};
 
 // A place in a record: the first offset, and the one after the last.
 pub struct Span {
@@ -22,10 +23,10 @@ fn to(first: usize, last: usize) -> Span
     }
 }
 
-// The bytes at a place.
+// The bytes at a place, where the caller has them.
 pub fn part(rec: &[u8], at: Span) -> &[u8]
     requires { ⌜ (at .start ≤ at .end) × (at .end ≤ length (now rec)) ⌝ }
-    ensures { λ r. ⌜ now r ≡ part at (now (rec .entry)) ⌝ }
+    ensures { λ r. ⌜ PartOf at (ptr (rec .entry)) (now (rec .entry)) (ptr r) (now r) ⌝ }
 {
     let start = at.start;
     let end = at.end;

@@ -13,7 +13,7 @@ use Rattle.laws.specs.Steps.{next}
 use Rattle.charset.specs.Table.{rep}
 use Rattle.records.specs.Places.{qText}
 use Rattle.records.specs.declared.Span.{Span}
-use Rattle.forwarding.specs.Text.{qTexts, tTexts, lies, text, textAt}
+use Rattle.forwarding.specs.Text.{qTexts, tTexts, lies, textual, textAt}
 use Rattle.restore.specs.ByNotes.{noteFits, notesFit}
 
 -- some number from i up to below e passes the test P
@@ -33,26 +33,26 @@ module _ (P : ℕ → Bool) (i e : ℕ) (t whole : Bool) where
 module _ (n i : ℕ) where
   pub text-past : n ≤ i + 256 → false ≡ textAt n i
   unfolding textAt
-  text-past h = ap (λ (t : Bool). t && text i) (sym (le-ltb (i + 256) n h))
+  text-past h = ap (λ (t : Bool). t && textual i) (sym (le-ltb (i + 256) n h))
 
-  before-z : i + 256 < n → text i ≡ textAt n i
+  before-z : i + 256 < n → textual i ≡ textAt n i
   unfolding textAt
-  before-z h = ap (λ (t : Bool). t && text i) (sym (lt-ltb (i + 256) n h))
+  before-z h = ap (λ (t : Bool). t && textual i) (sym (lt-ltb (i + 256) n h))
 
   pub text-in-q : {s : Span} → i + 256 < n → i < 256 → s ≡ qText 1 → leb (s .start) i && ltb i (s .end) ≡ textAt n i
-  unfolding text
+  unfolding textual
   text-in-q h l e =
       ap (λ (s : Span). leb (s .start) i && ltb i (s .end)) e ∙ sym (or-false (leb 23 i && ltb i 163))
       ∙ ap (λ (t : Bool). cond t (lies qTexts i) (lies tTexts ((i - 256) % 768))) (sym (lt-ltb i 256 l)) ∙ before-z h
 
   pub text-in-t : {t : Bool} → i + 256 < n → 256 ≤ i → t ≡ lies tTexts ((i - 256) % 768) → t ≡ textAt n i
-  unfolding text
+  unfolding textual
   text-in-t h l e =
       e ∙ ap (λ (t : Bool). cond t (lies qTexts i) (lies tTexts ((i - 256) % 768))) (sym (le-ltb i 256 l)) ∙ before-z h
 
   pub text-below : {t : Bool} → t ≡ textAt n i → not t ≡ false → i < n
   unfolding textAt
-  text-below {t} e h = omega (arith, ltb-true (i + 256) n (both (ltb (i + 256) n) (text i) (sym e ∙ not-false t h) .0))
+  text-below {t} e h = omega (arith, ltb-true (i + 256) n (both (ltb (i + 256) n) (textual i) (sym e ∙ not-false t h) .0))
 
 -- a note v about the file g
 module _ (page : ℕ) (g : List ℕ) (from v : ℕ) where

@@ -18,11 +18,11 @@ use Rattle.forwarding.specs.Forwarded.{forwarded, notesOf}
 use Rattle.forwarding.specs.Merge.{originalOf, isPair}
 use Rattle.forwarding.specs.Put.{put}
 use Rattle.forwarding.specs.RoundTrip.{Bytes, forwarded-length, forwarded-forwarded, forwarded-notes, forwarded-bytes, original-back, pair-yielded, pair-yields, original-bytes}
-use Rattle.prepare.specs.Prepared.{refused, done, sendOf, prepareOf, PreparedAs}
+use Rattle.prepare.specs.Prepared.{notPrepared, done, sendOf, prepareOf, PreparedAs}
 use Rattle.prepare.specs.declared.Prepared.{Prepared}
 use Rattle.alike.specs.Files.{judged-alike}
 use Rattle.restore.specs.Yields.{SoundOrigin}
-use Rattle.restore.specs.Restored.{answer, isYielded, restoreOf, outputOf, RestoredAs}
+use Rattle.restore.specs.Restored.{answer, isYielded, restoreOf, restoredInto, RestoredAs}
 use Rattle.restore.specs.declared.Restored.{Restored}
 
 module _ (page : ℕ) (transfer cheque : List ℕ) where
@@ -116,7 +116,7 @@ module _ (page : ℕ) (transfer cheque : List ℕ) where
       → RestoredAs page sent notes transfer cheque out a' o' → (a ≡ a') × (o ≡ o')
   one-outcome sent notes out o o' a a' p q =
       let same = p .answer-is ∙ sym (q .answer-is) in
-      (same, p .out-is ∙ ap (λ (given : Restored). outputOf given sent notes out) same ∙ sym (q .out-is))
+      (same, p .out-is ∙ ap (λ (given : Restored). restoredInto given sent notes out) same ∙ sym (q .out-is))
 
   -- what prepare left comes from the file that it prepared
   module _ (file out notes out' notes' : List ℕ) (given : Prepared) (promise : PreparedAs page file transfer cheque out notes given out' notes')
@@ -129,7 +129,7 @@ module _ (page : ℕ) (transfer cheque : List ℕ) where
         number-is e = sym (ap (λ (r : Prepared). r .number) e) ∙ z
 
         go : (sound short few : Bool) → eqb (verdictOf page file transfer cheque .number) 0 ≡ sound
-            → given ≡ cond sound (cond short (refused 60 0) (cond few (refused 61 0) (done (length (notesOf page file))))) (refused (verdictOf page file transfer cheque .number) (verdictOf page file transfer cheque .rec))
+            → given ≡ cond sound (cond short (notPrepared 60 0) (cond few (notPrepared 61 0) (done (length (notesOf page file))))) (notPrepared (verdictOf page file transfer cheque .number) (verdictOf page file transfer cheque .rec))
             → (verdictOf page file transfer cheque .number ≡ 0) × (given .notes ≡ length (notesOf page file))
         go true false false p e = (eqb-true _ _ p, ap (λ (r : Prepared). r .notes) e)
         go true false true p e = absurd (omega (arith, number-is e))

@@ -26,10 +26,10 @@ restoreOf page forwarded notes transfer cheque room =
     (cond (isYielded page forwarded notes transfer cheque) (answer 0) (answer 70))
 
 -- "If 0, the output begins with the original, the rest of it keeps its bytes"; else it keeps them all
-abbrev pub outputOf : Restored → List ℕ → List ℕ → List ℕ → List ℕ
-outputOf given forwarded notes out = cond (eqb (given .number) 0) (put 0 (originalOf forwarded notes) out) out
+abbrev pub restoredInto : Restored → List ℕ → List ℕ → List ℕ → List ℕ
+restoredInto given forwarded notes out = cond (eqb (given .number) 0) (put 0 (originalOf forwarded notes) out) out
 
 -- what is promised of restoring: the answer and the output, for every input
 pub record RestoredAs (page : ℕ) (forwarded notes transfer cheque out : List ℕ) (given : Restored) (out' : List ℕ) : Type 0 where
   pub answer-is : given ≡ restoreOf page forwarded notes transfer cheque (length out)
-  pub out-is : out' ≡ outputOf given forwarded notes out
+  pub out-is : out' ≡ restoredInto given forwarded notes out

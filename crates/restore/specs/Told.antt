@@ -17,7 +17,7 @@ use Rattle.forwarding.specs.Forwarded.{notesOf}
 use Rattle.forwarding.specs.Merge.{originalOf, isPair}
 use Rattle.forwarding.specs.Put.{put}
 use Rattle.forwarding.specs.RoundTrip.{pair-alone}
-use Rattle.restore.specs.ByNotes.{notesFit, putNotes, inside, accepts-by-notes, merged-by-notes, notes-inside, inside-more, notes-in-front, notes-length}
+use Rattle.restore.specs.ByNotes.{notesFit, putNotes, inFile, accepts-by-notes, merged-by-notes, notes-inside, inside-more, notes-in-front, notes-length}
 use Rattle.restore.specs.Restored.{answer, isYielded, restoreOf, RestoredAs}
 
 -- whether a sound file yields the pair: v is the verdict, n how many characters are left to replace, fit whether
@@ -57,7 +57,7 @@ module _ (page : ℕ) (g ns transfer cheque : List ℕ) where
         let p = both (eqb (verdictOf page g transfer cheque .number) 0) (isPair page g ns) y .1 in
         both (isPair page g []) (notesFit (rep page) (textAt (length g)) g 0 ns) (sym pair-is ∙ p) .1
 
-    pub notes-in-file : inside (length g) ns ≡ true
+    pub notes-in-file : inFile (length g) ns ≡ true
     notes-in-file = notes-inside (rep page) (textAt (length g)) g 0 ns notes-fit
 
     original-is : putNotes g ns ≡ originalOf g ns
@@ -89,12 +89,12 @@ module _ (page : ℕ) (g ns transfer cheque out : List ℕ) where
         }
 
 -- what is written: the file is copied, and the notes are put back
-module _ (g ns out : List ℕ) (inside-file : inside (length g) ns ≡ true) {copied : List ℕ}
+module _ (g ns out : List ℕ) (inside-file : inFile (length g) ns ≡ true) {copied : List ℕ}
     (c : copied ≡ take (length g) g ++ drop (length g) out) where
   copied-is : copied ≡ g ++ drop (length g) out
   copied-is = c ∙ ap (λ (s : List ℕ). s ++ drop (length g) out) (take-length g)
 
-  pub copy-holds : inside (length copied) ns ≡ true
+  pub copy-holds : inFile (length copied) ns ≡ true
   copy-holds = inside-more (length g) (length copied) ns (omega (arith, ap length copied-is, length-append g (drop (length g) out))) inside-file
 
   pub written : {out' : List ℕ} → out' ≡ putNotes copied ns → out' ≡ put 0 (putNotes g ns) out

@@ -9,7 +9,7 @@ ghost use lib.ListN.{length};
 ghost use Rattle.charset.specs.Table.{rep};
 ghost use Rattle.forwarding.specs.Text.{tTexts, lies, textAt};
 ghost use Rattle.forwarding.specs.Put.{put};
-ghost use Rattle.restore.specs.ByNotes.{noteFits, notesFit, inside, putNotes};
+ghost use Rattle.restore.specs.ByNotes.{noteFits, notesFit, inFile, putNotes};
 ghost use Rattle.restore.specs.Restored.{isYielded, RestoredAs};
 
 // Number 0: restored. Else 60 or 70. The record is always 0.
@@ -87,7 +87,7 @@ fn notes_fit(page: u32, file: &[u8], notes: &[u32]) -> bool
 
 // Each note's byte is put at its place.
 fn put_back(notes: &[u32], out: &mut [u8])
-    requires { ⌜ inside (length (now out)) (now notes) ≡ true ⌝ }
+    requires { ⌜ inFile (length (now out)) (now notes) ≡ true ⌝ }
     ensures { λ _. ⌜ now (out .exit) ≡ putNotes (now (out .entry)) (now (notes .entry)) ⌝ }
 {
     let mut k = 0;
@@ -116,7 +116,7 @@ fn is_yielded(page: u32, forwarded: &[u8], notes: &[u32], transfer: &[u8], chequ
 
 // The forwarded file is copied to the front of the output, and the notes are put back there.
 fn write(forwarded: &[u8], notes: &[u32], out: &mut [u8])
-    requires { ⌜ (length (now forwarded) ≤ length (now out)) × (inside (length (now forwarded)) (now notes) ≡ true) ⌝ }
+    requires { ⌜ (length (now forwarded) ≤ length (now out)) × (inFile (length (now forwarded)) (now notes) ≡ true) ⌝ }
     ensures { λ _. ⌜ now (out .exit) ≡ put 0 (putNotes (now (forwarded .entry)) (now (notes .entry))) (now (out .entry)) ⌝ }
 {
     bytes::copy(forwarded, out);

@@ -9,7 +9,7 @@ use borrow.Author.Tests.{eqb-false, leb-true}
 use lib.Dec.{eqb, leb}
 use lib.ListN.{length}
 use Rattle.laws.specs.Choice.{either, on-eq, off-eq, on-le, off-le}
-use Rattle.records.specs.Places.{recordAt, part, nowhere, qText, tText}
+use Rattle.records.specs.Places.{recordAt, PartOf, nowhere, qText, tText}
 use Rattle.records.specs.Inside.{Inside, q-text-inside, t-text-inside}
 use Rattle.records.specs.declared.Span.{Span}
 use Rattle.structure.specs.Slots.{place-is}
@@ -30,8 +30,10 @@ shownBy (Fits n) k f = cond (eqb k 0) (qText f) (cond (leb k n) (moved (recordAt
 unfoldable pub shownAt : List ℕ → ℕ → ℕ → Span
 shownAt file k f = shownBy (structureOf file) k f
 
-unfoldable pub shownOf : List ℕ → ℕ → ℕ → List ℕ
-shownOf file k f = part (shownAt file k f) file
+-- what is promised of showing a field, for every input: the part begins at the field's place in the caller's own memory, where
+-- the file begins at `from`, and is that field's bytes
+abbrev pub ShownAs : (ℕ × ℕ) → List ℕ → ℕ → ℕ → (ℕ × ℕ) → List ℕ → Type 0
+ShownAs from file k f at bytes = PartOf (shownAt file k f) from file at bytes
 
 nowhere-inside : (n : ℕ) → Inside n nowhere
 nowhere-inside n = (omega arith, omega arith)

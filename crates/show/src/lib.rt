@@ -5,7 +5,8 @@ use records::T;
 use structure::Shape;
 ghost use mathlib.Core.Path.{_≡_};
 ghost use Prim.Native.Nat.{_≤_};
-ghost use Rattle.show.specs.Shown.{moved, shownAt, shownOf};
+ghost use denote.Ref.{ptr};
+ghost use Rattle.show.specs.Shown.{moved, shownAt, ShownAs};
 
 // A place in a record that starts at an offset of the file; an empty place stays empty.
 fn moved(at: usize, s: Span) -> Span
@@ -40,9 +41,9 @@ pub fn place(file: &[u8], rec: usize, field: usize) -> Span
     }
 }
 
-// The bytes of that field.
+// That field, where the caller has it.
 pub fn show(file: &[u8], rec: usize, field: usize) -> &[u8]
-    ensures { λ r. ⌜ now r ≡ shownOf (now (file .entry)) rec field ⌝ }
+    ensures { λ r. ⌜ ShownAs (ptr (file .entry)) (now (file .entry)) rec field (ptr r) (now r) ⌝ }
 {
     records::part(file, place(file, rec, field))
 }

@@ -19,34 +19,34 @@ use Rattle.structure.specs.declared.Shape.{Shape}
 use Rattle.structure.specs.declared.Shape.the-variants.{Fits, Refused}
 
 -- record k is whole, and no Z: the walk goes on
-pub record Passed (file : List ℕ) (k : ℕ) : Type 0 where
+pub record WalksOn (file : List ℕ) (k : ℕ) : Type 0 where
   pub right : faultIn k (slotAt file k) ≡ 0
   pub no-z : letterOf (slotAt file k) ≡ code "Z" → ⊥
 
 -- the walk comes to record k
-abbrev pub Due : List ℕ → ℕ → Type 0
-Due file k = (j : ℕ) → j < k → Passed file j
+abbrev pub Reached : List ℕ → ℕ → Type 0
+Reached file k = (j : ℕ) → j < k → WalksOn file j
 
 module _ (file : List ℕ) (k : ℕ) where
-  pub goes-on : stops file k ≡ false → Passed file k
+  pub goes-on : stops file k ≡ false → WalksOn file k
   goes-on e = go (eqb (faultIn k (slotAt file k)) 0) (eqb (letterOf (slotAt file k)) (code "Z")) refl refl e
     where
       go : (a b : Bool) → eqb (faultIn k (slotAt file k)) 0 ≡ a → eqb (letterOf (slotAt file k)) (code "Z") ≡ b → not a || b ≡ false
-          → Passed file k
+          → WalksOn file k
       go true false p q e = record { right = eqb-true _ _ p; no-z = eqb-false _ _ q }
       go true true p q e = absurd (true≢false e)
       go false b p q e = absurd (true≢false e)
 
-  pub stays : Passed file k → stops file k ≡ false
+  pub stays : WalksOn file k → stops file k ≡ false
   stays p = rw (eq-eqb _ _ (p .right), ne-eqb _ _ (p .no-z))
 
   -- where the walk goes on, there is room for what follows
-  pub passed-room : Passed file k → 768 * (k + 1) - 512 ≤ length file
+  pub passed-room : WalksOn file k → 768 * (k + 1) - 512 ≤ length file
   passed-room p = more-room file k (p .right) (p .no-z)
 
 -- a file that fits, with n T records
 pub record Fit (file : List ℕ) (n : ℕ) : Type 0 where
-  pub due : Due file (n + 1)
+  pub due : Reached file (n + 1)
   pub right : faultIn (n + 1) (slotAt file (n + 1)) ≡ 0
   pub z : letterOf (slotAt file (n + 1)) ≡ code "Z"
   pub some : 1 ≤ n
@@ -55,7 +55,7 @@ pub record Fit (file : List ℕ) (n : ℕ) : Type 0 where
 
 -- a refusal at a record that the walk comes to
 pub record Stuck (file : List ℕ) (number k : ℕ) : Type 0 where
-  pub due : Due file k
+  pub due : Reached file k
   pub broken : faultIn k (slotAt file k) ≡ number
   pub real : number ≡ 0 → ⊥
 
@@ -67,10 +67,10 @@ Tells file (Refused number k) =
 
 module _ (file : List ℕ) (short : length file ≤ 7679744) where
   -- record 10,000 is the last that the walk can come to
-  ends : Due file 10001 → ⊥
+  ends : Reached file 10001 → ⊥
   ends due = let room = passed-room file 10000 (due 10000 (omega arith)) in omega (arith, room)
 
-  fit : (k : ℕ) → Due file k → faultIn k (slotAt file k) ≡ 0 → letterOf (slotAt file k) ≡ code "Z" → Fit file (k - 1)
+  fit : (k : ℕ) → Reached file k → faultIn k (slotAt file k) ≡ 0 → letterOf (slotAt file k) ≡ code "Z" → Fit file (k - 1)
   fit k due right z =
       let room = ends-room file k right z in
       let back : k - 1 + 1 ≡ k = omega (arith, room .0) in
@@ -83,7 +83,7 @@ module _ (file : List ℕ) (short : length file ≤ 7679744) where
         long = room .1;
       }
 
-  tells-at : (k : ℕ) → Due file k → stops file k ≡ true → Tells file (told file k)
+  tells-at : (k : ℕ) → Reached file k → stops file k ≡ true → Tells file (told file k)
   tells-at k due e = go (eqb (faultIn k (slotAt file k)) 0) refl e
     where
       go : (a : Bool) → eqb (faultIn k (slotAt file k)) 0 ≡ a → not a || eqb (letterOf (slotAt file k)) (code "Z") ≡ true

@@ -9,7 +9,7 @@ use Rattle.laws.specs.Choice.{on, off, on-eq, off-eq}
 use Rattle.laws.specs.Scan.{orElse}
 use Rattle.structure.specs.Slots.{slotAt}
 use Rattle.structure.specs.Walk.{letterOf, faultIn, stops, told}
-use Rattle.structure.specs.Fits.{Passed, stays}
+use Rattle.structure.specs.Fits.{WalksOn, stays}
 use Rattle.structure.specs.declared.Shape.{Shape}
 use Rattle.structure.specs.declared.Shape.the-variants.{Fits, Refused}
 
@@ -17,10 +17,10 @@ module _ (file : List ℕ) (k f : ℕ) (rec : List ℕ) (s : rec ≡ slotAt file
   fault-is : f ≡ faultIn k (slotAt file k)
   fault-is = e ∙ ap (faultIn k) s
 
-  pub passed : f ≡ 0 → (getD rec 4 0 ≡ code "Z" → ⊥) → Passed file k
+  pub passed : f ≡ 0 → (getD rec 4 0 ≡ code "Z" → ⊥) → WalksOn file k
   passed z n = record { right = sym fault-is ∙ z; no-z = λ q. n (ap letterOf s ∙ q) }
 
-  pub hands-on : Passed file k → (rest : Shape) → rest ≡ orElse (stops file) (told file) k rest
+  pub hands-on : WalksOn file k → (rest : Shape) → rest ≡ orElse (stops file) (told file) k rest
   hands-on p rest = off _ (stays file k p) refl
 
   pub stops-broken : (f ≡ 0 → ⊥) → (rest : Shape) → Refused f k ≡ orElse (stops file) (told file) k rest

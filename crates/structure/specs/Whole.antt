@@ -14,7 +14,7 @@ use Rattle.fields.specs.Class.{same}
 use Rattle.structure.specs.Slots.{slotAt, slot-length, later-width}
 use Rattle.structure.specs.Walk.{letterOf, digitsOf, allowed, lengthFor, digitsFor, faultIn}
 
-pub record Whole (k : ℕ) (slot : List ℕ) : Type 0 where
+pub record WholeSlot (k : ℕ) (slot : List ℕ) : Type 0 where
   pub here : allowed k (letterOf slot) ≡ true
   pub digits : same (digitsOf slot) (digitsFor (letterOf slot)) ≡ true
   pub long : lengthFor (letterOf slot) ≤ length slot
@@ -24,7 +24,7 @@ both-on : (a b : Bool) → a && b ≡ false → a ≡ true → b ≡ false
 both-on true b e t = e
 both-on false b e t = absurd (false≢true t)
 
-pub whole : (k : ℕ) (slot : List ℕ) → faultIn k slot ≡ 0 → Whole k slot
+pub whole : (k : ℕ) (slot : List ℕ) → faultIn k slot ≡ 0 → WholeSlot k slot
 unfolding faultIn
 whole k slot e =
     go (ltb (length slot) 5) (allowed k (letterOf slot)) (same (digitsOf slot) (digitsFor (letterOf slot)))
@@ -36,7 +36,7 @@ whole k slot e =
     go : (short here digits less more : Bool) → allowed k (letterOf slot) ≡ here → same (digitsOf slot) (digitsFor (letterOf slot)) ≡ digits
         → ltb (length slot) (lengthFor (letterOf slot)) ≡ less → eqb (letterOf slot) (code "Z") && ltb 256 (length slot) ≡ more
         → _≡_ {A = ℕ} (cond short 2 (cond here (cond digits (cond less 2 (cond more 5 0)) 3) 4)) 0
-        → Whole k slot
+        → WholeSlot k slot
     go true here digits less more p q r t e = no 2 e (omega arith)
     go false false digits less more p q r t e = no 4 e (omega arith)
     go false true false less more p q r t e = no 3 e (omega arith)
@@ -55,7 +55,7 @@ pub length-low : (letter : ℕ) → 256 ≤ lengthFor letter
 length-low letter = either (λ (n : ℕ). 256 ≤ n) (eqb letter (code "T")) 768 256 (lit≤ tt) (lit≤ tt)
 
 -- and a whole record breaks nothing
-pub no-fault : (k : ℕ) (slot : List ℕ) → Whole k slot → faultIn k slot ≡ 0
+pub no-fault : (k : ℕ) (slot : List ℕ) → WholeSlot k slot → faultIn k slot ≡ 0
 unfolding faultIn
 no-fault k slot w =
     sym
@@ -102,7 +102,7 @@ pub more-room : (file : List ℕ) (k : ℕ) → faultIn k (slotAt file k) ≡ 0 
     → 768 * (k + 1) - 512 ≤ length file
 more-room file k e n = go (eqb k 0) refl
   where
-    w : Whole k (slotAt file k)
+    w : WholeSlot k (slotAt file k)
     w = whole k (slotAt file k) e
 
     go : (b : Bool) → eqb k 0 ≡ b → 768 * (k + 1) - 512 ≤ length file

@@ -6,4 +6,4 @@ use Rattle.records.proofs.part.Tie as tie
 
 pub part-spec : {M : Type 1} → statement M
 unfolding part
-part-spec = tie.close (tie.spec (λ c. search needs) (λ c. search needs) (λ c. search needs) (λ c. refl))
+part-spec = tie.close (tie.spec (λ c. search needs) (λ c. search needs) (λ c. search needs) (λ c. record { there = refl; holds = refl }))

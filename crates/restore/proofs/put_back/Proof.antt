@@ -6,13 +6,13 @@ use mathlib.Core.Bool.{true}
 use Prim.Native.Nat.{_-_}
 use lib.ListN.{length, drop, length-set}
 use Rattle.laws.specs.Steps.{fold-on, fold-over}
-use Rattle.restore.specs.ByNotes.{inside, inside-next, putNote, putNotes}
+use Rattle.restore.specs.ByNotes.{inFile, inside-next, putNote, putNotes}
 use Rattle.restore.proofs.put_back.Statement.{statement}
 use Rattle.restore.proofs.put_back.Tie as tie
 
 abbrev Inv-loop : tie.InvT-loop
 Inv-loop notes out₀ k₀ out k =
-    (length out ≡ length out₀) × (inside (length out) (drop k notes) ≡ true) × (putNotes out (drop k notes) ≡ putNotes out₀ notes)
+    (length out ≡ length out₀) × (inFile (length out) (drop k notes) ≡ true) × (putNotes out (drop k notes) ≡ putNotes out₀ notes)
 
 abbrev μ-loop : tie.MeasureT-loop
 μ-loop notes out₀ k₀ out k = length notes - k

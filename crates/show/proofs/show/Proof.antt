@@ -1,9 +1,9 @@
 use borrow.Author.Needs.{needs}
-use mathlib.Core.Path.{refl, ap, _∙_}
-use Rattle.records.specs.Places.{part}
+use mathlib.Core.Path.{refl, subst}
+use Rattle.records.specs.Places.{PartOf}
 use Rattle.records.specs.Inside.{inside}
 use Rattle.records.specs.declared.Span.{Span}
-use Rattle.show.specs.Shown.{shownOf, shown-inside}
+use Rattle.show.specs.Shown.{shown-inside}
 use Rattle.show.proofs.show.Statement.{statement}
 use Rattle.show.proofs.show.Tie as tie
 
@@ -13,8 +13,10 @@ part-requires c κs =
     inside (c .place .ensures) (shown-inside (a .file .now) (a .rec) (a .field)) refl
 
 returns : tie.Need-returns
-unfolding shownOf
-returns c = c .part .ensures ∙ ap (λ (s : Span). part s (c .before .before .before .args .file .now)) (c .before .place .ensures)
+returns c =
+    let file = c .before .before .before .args .file in
+    let r = c .part .result in
+    subst (λ (s : Span). PartOf s (file .ptr) (file .now) (r .ptr) (r .now)) (c .before .place .ensures) (c .part .ensures)
 
 pub show-spec : {M : Type 1} → statement M
 show-spec = tie.close (tie.spec (λ c κs. search needs) part-requires returns)

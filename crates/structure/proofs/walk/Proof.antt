@@ -10,7 +10,7 @@ use Rattle.laws.specs.Scan.{first, goes, leaves}
 use Rattle.structure.specs.Slots.{place-is}
 use Rattle.structure.specs.Walk.{stops, told, structureOf}
 use Rattle.structure.specs.Whole.{whole, length-low, z-later}
-use Rattle.structure.specs.Fits.{Passed, passed-room}
+use Rattle.structure.specs.Fits.{WalksOn, passed-room}
 use Rattle.structure.specs.Turns.{passed, hands-on, stops-broken, stops-z}
 use Rattle.structure.specs.declared.Shape.{Shape}
 use Rattle.structure.specs.declared.Shape.the-variants.{Refused}
@@ -34,7 +34,7 @@ unfolding structureOf
 returns c = on-lt _ (c .if1 .taken) refl
 
 -- the record at which the loop stands is passed
-passed-here : (c : tie.Else3 Inv-loop μ-loop) → Passed (c .before .before .before .before .before .before .before .before .args .file .now) (c .before .before .before .before .before .loop .k)
+passed-here : (c : tie.Else3 Inv-loop μ-loop) → WalksOn (c .before .before .before .before .before .before .before .before .args .file .now) (c .before .before .before .before .before .loop .k)
 passed-here c = passed _ _ _ _ (c .before .before .before .before .slot .ensures) (c .before .before .before .fault-in .ensures) (c .before .before .if2 .left) (c .if3 .left)
 
 returns-2 : tie.Need-returns-2 Inv-loop μ-loop

@@ -10,5 +10,5 @@ q-record-spec =
     (tie.spec
     (λ c κs. search needs)
     (λ c κs. q-in (c .text .ensures) (c .before .before .args .rec .now) (c .before .before .pre))
-    (λ c κs. q-short (c .before .text .ensures) (c .before .before .before .args .rec .now) (c .part .ensures))
-    (λ c. count-q5 (c .before .before .before .before .args .rec .now) (c .before .before .text .ensures) (c .before .part .ensures) (c .field .ensures)))
+    (λ c κs. q-short (c .before .text .ensures) (c .before .before .before .args .rec .now) (c .part .ensures .holds))
+    (λ c. count-q5 (c .before .before .before .before .args .rec .now) (c .before .before .text .ensures) (c .before .part .ensures .holds) (c .field .ensures)))

@@ -24,7 +24,7 @@ part-requires c κs =
 
 short : (c : tie.After-part Inv-loop μ-loop) → length (c .part .result .now) ≤ 140
 short c =
-    t-short (c .before .before .before .loop .k) (search needs) (search needs) (c .before .text .ensures) (c .before .before .before .before .before .args .rec .now) (c .part .ensures)
+    t-short (c .before .before .before .loop .k) (search needs) (search needs) (c .before .text .ensures) (c .before .before .before .before .before .args .rec .now) (c .part .ensures .holds)
 
 few : (c : tie.After-field Inv-loop μ-loop) → c .field .result ≤ 140
 few c = omega (arith, c .field .ensures, changes-few (c .before .part .result .now), short (c .before))
@@ -35,7 +35,7 @@ loop-again c =
       search needs,
       search needs,
       omega (arith, few c),
-      count-field (c .before .before .before .before .before .before .args .rec .now) (l .k) (search needs) (search needs) (c .before .before .text .ensures) (c .before .part .ensures) (l .inv .3) (c .field .ensures),
+      count-field (c .before .before .before .before .before .before .args .rec .now) (l .k) (search needs) (search needs) (c .before .before .text .ensures) (c .before .part .ensures .holds) (l .inv .3) (c .field .ensures),
     )
 
 returns : tie.Need-returns Inv-loop μ-loop

@@ -13,12 +13,12 @@ field-requires c κs =
     let start = c .before .before .before .before .before in
     let rec = start .args .rec .now in
     let at = c .before .before .text .ensures in
-    let bytes = c .before .part .ensures in
+    let bytes = c .before .part .ensures .holds in
     (omega (arith, q-ends at rec bytes), omega (arith, start .pre .1, ap length (q5-notes rec at bytes)))
 
 returns : tie.Need-returns
 returns c =
-    noted-is (q5-notes (c .before .before .before .before .before .before .before .before .args .rec .now) (c .before .before .before .before .before .text .ensures) (c .before .before .before .before .part .ensures)) (c .before .before .field .ensures)
+    noted-is (q5-notes (c .before .before .before .before .before .before .before .before .args .rec .now) (c .before .before .before .before .before .text .ensures) (c .before .before .before .before .part .ensures .holds)) (c .before .before .field .ensures)
 
 pub q-record-spec : {M : Type 1} → statement M
 q-record-spec =

@@ -26,7 +26,7 @@ part-requires c κs =
 
 ends : (c : tie.After-part Inv-loop μ-loop) → c .before .text .result .start + length (c .part .result .now) ≤ 768
 ends c =
-    t-ends (c .before .before .before .loop .k) (search needs) (search needs) (c .before .text .ensures) (c .before .before .before .before .before .before .args .rec .now) (c .part .ensures)
+    t-ends (c .before .before .before .loop .k) (search needs) (search needs) (c .before .text .ensures) (c .before .before .before .before .before .before .args .rec .now) (c .part .ensures .holds)
 
 field-requires : tie.Need-field-requires Inv-loop μ-loop
 field-requires c κs =
@@ -34,7 +34,7 @@ field-requires c κs =
     let rec = start .args .rec .now in
     let l = c .before .before .before .before .before .loop in
     let at = c .before .before .before .text .ensures in
-    let bytes = c .before .before .part .ensures in (
+    let bytes = c .before .before .part .ensures .holds in (
       omega (arith, start .pre .1, ends (c .before .before)),
       omega (arith, start .pre .2, l .inv .2, l .inv .3 .next-is, field-fits rec (l .k) (start .args .place) (search needs) (search needs) at bytes),
     )
@@ -45,7 +45,7 @@ loop-again c =
     let rec = start .args .rec .now in
     let l = c .before .before .before .before .before .before .before .before .loop in
     let at = c .before .before .before .before .before .before .text .ensures in
-    let bytes = c .before .before .before .before .before .part .ensures in
+    let bytes = c .before .before .before .before .before .part .ensures .holds in
     let put = c .before .before .field .ensures in (
       search needs,
       search needs,

@@ -6,7 +6,7 @@ use Rattle.records.proofs.Z.field.Tie as tie
 returns : tie.Need-returns
 returns c =
     let a = c .before .before .before .args in
-    held _ (a .rec .now) (cc) (z-inside (a .field)) (c .before .before .before .pre)
+    held (a .rec .now) (c .part .ensures) (c .before .place .ensures) (z-inside (a .field)) (c .before .before .before .pre)
 
 pub field-spec : {M : Type 1} → statement M
 field-spec =
