@@ -23,7 +23,8 @@ use Rattle.structure.specs.Fits.{WalksOn, Fit, fits, fit-found}
 use Rattle.structure.specs.declared.Shape.the-variants.{Fits}
 use Rattle.judge.specs.Content.{faultOf, ruleFrom, ruleEnd, contentOf, rule-real}
 use Rattle.judge.specs.Meaning.{none-broken, complete}
-use Rattle.judge.specs.Sums.{total, euros, euroSum}
+use Rattle.judge.specs.Sums.{total, euros, cents, euroSum, centSum}
+use Rattle.judge.specs.Records.{joined, fileOf, AllLong, Lengths, sumOf}
 use Rattle.judge.specs.Verdict.{refused, unless, verdictOf}
 use Rattle.judge.specs.declared.Verdict.{Verdict}
 use Rattle.judge.specs.declared.Breach.{Breach}
@@ -38,37 +39,17 @@ unless-number b v z = go (eqb (b .number) 0) refl
     go true e = z ∙ sym (eqb-true (b .number) 0 e)
     go false e = refl
 
-abbrev pub joined : List (List ℕ) → List ℕ
-joined [] = []
-joined (t ∷ ts) = t ++ joined ts
-
-abbrev pub fileOf : List ℕ → List (List ℕ) → List ℕ → List ℕ
-fileOf q ts z = q ++ (joined ts ++ z)
-
-abbrev pub AllLong : List (List ℕ) → Type 0
-AllLong [] = Unit {0}
-AllLong (t ∷ ts) = (length t ≡ 768) × AllLong ts
-
--- the payments' whole euros
-abbrev pub eurosOf : List (List ℕ) → ℕ
-eurosOf [] = 0
-eurosOf (t ∷ ts) = euros t + eurosOf ts
-
 -- a sum over records 1 to n from its first on
 first-out : (f : ℕ → ℕ) (n : ℕ) → total f (suc n) ≡ f 1 + total (λ (k : ℕ). f (suc k)) n
 first-out f zero = omega arith
 first-out f (suc n) = omega (arith, first-out f n)
 
-sum-of : (f : ℕ → ℕ) (ts : List (List ℕ)) → ((k : ℕ) → k < length ts → f (k + 1) ≡ euros (getD ts k [])) → total f (length ts) ≡ eurosOf ts
-sum-of f [] h = refl
-sum-of f (t ∷ ts) h =
+sum-of : (g : List ℕ → ℕ) (f : ℕ → ℕ) (ts : List (List ℕ)) → ((k : ℕ) → k < length ts → f (k + 1) ≡ g (getD ts k []))
+    → total f (length ts) ≡ sumOf g ts
+sum-of g f [] h = refl
+sum-of g f (t ∷ ts) h =
     first-out f (length ts)
-    ∙ ap₂ _+_ (h 0 (omega arith)) (sum-of (λ (k : ℕ). f (suc k)) ts (λ k l. ap f (omega arith) ∙ h (suc k) (omega arith)))
-
-pub record Sized (q : List ℕ) (ts : List (List ℕ)) (z : List ℕ) : Type 0 where
-  pub q-size : length q ≡ 256
-  pub t-size : AllLong ts
-  pub z-size : length z ≡ 256
+    ∙ ap₂ _+_ (h 0 (omega arith)) (sum-of g (λ (k : ℕ). f (suc k)) ts (λ k l. ap f (omega arith) ∙ h (suc k) (omega arith)))
 
 joined-length : (ts : List (List ℕ)) → AllLong ts → length (joined ts) ≡ 768 * length ts
 joined-length [] h = refl
@@ -85,7 +66,7 @@ joined-drop (t ∷ ts) z (suc k) h l =
     ∙ ap (drop (768 * k)) (drop-at t (joined ts ++ z) 768 (h .0))
     ∙ joined-drop ts z k (h .1) (omega arith)
 
-module _ (q : List ℕ) (ts : List (List ℕ)) (z : List ℕ) (sized : Sized q ts z) where
+module _ (q : List ℕ) (ts : List (List ℕ)) (z : List ℕ) (sized : Lengths q ts z) where
   pub file-length : length (fileOf q ts z) ≡ 512 + 768 * length ts
   file-length =
       length-append q (joined ts ++ z)
@@ -119,9 +100,16 @@ module _ (q : List ℕ) (ts : List (List ℕ)) (z : List ℕ) (sized : Sized q t
       last [] = refl
       last (t ∷ ts) = last ts
 
-  pub sum-by-records : euroSum (fileOf q ts z) (length ts) ≡ eurosOf ts
+  total-by-records : (g : List ℕ → ℕ) → total (λ (k : ℕ). g (slotAt (fileOf q ts z) k)) (length ts) ≡ sumOf g ts
+  total-by-records g = sum-of g (λ (k : ℕ). g (slotAt (fileOf q ts z) k)) ts (λ k l. ap g (slot-t k l))
+
+  pub sum-by-records : euroSum (fileOf q ts z) (length ts) ≡ sumOf euros ts
   unfolding euroSum
-  sum-by-records = sum-of (λ (k : ℕ). euros (slotAt (fileOf q ts z) k)) ts (λ k l. ap euros (slot-t k l))
+  sum-by-records = total-by-records euros
+
+  pub cents-by-records : centSum (fileOf q ts z) (length ts) ≡ sumOf cents ts
+  unfolding centSum
+  cents-by-records = total-by-records cents
 
   -- each head is right, and there are 1 to 9,999 payments
   pub record Heads : Type 0 where
@@ -194,7 +182,7 @@ module _ (q : List ℕ) (ts : List (List ℕ)) (z : List ℕ) (sized : Sized q t
     pub heads : Heads
     pub q-rules : (rule : ℕ) → 10 ≤ rule → rule < 17 → qFault page q rule ≡ 0
     pub t-rules : (k : ℕ) → k < length ts → (rule : ℕ) → 20 ≤ rule → rule < 36 → tFault page transfer cheque (keyOf (getD ts 0 [])) (getD ts k []) rule ≡ 0
-    pub z-rules : (rule : ℕ) → 40 ≤ rule → rule < 43 → zFault (length ts) (eurosOf ts) z rule ≡ 0
+    pub z-rules : (rule : ℕ) → 40 ≤ rule → rule < 43 → zFault (length ts) (sumOf euros ts) z rule ≡ 0
 
   module _ (page : ℕ) (transfer cheque : List ℕ) where
     F : ℕ → ℕ → ℕ
@@ -210,7 +198,7 @@ module _ (q : List ℕ) (ts : List (List ℕ)) (z : List ℕ) (sized : Sized q t
         of-t page (fileOf q ts z) (length ts) _ transfer cheque (k + 1) rule _ (λ (e : k + 1 ≡ 0). omega arith) (omega arith)
         (sym (slot-t 0 (omega arith))) refl (sym (slot-t k l)) refl
 
-    f-z : (rule : ℕ) → zFault (length ts) (eurosOf ts) z rule ≡ F (length ts + 1) rule
+    f-z : (rule : ℕ) → zFault (length ts) (sumOf euros ts) z rule ≡ F (length ts + 1) rule
     unfolding F
     f-z rule =
         ap (λ (sum : ℕ). zFault (length ts) sum z rule) (sym sum-by-records)

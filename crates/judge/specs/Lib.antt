@@ -5,5 +5,7 @@ pub mod Sums
 pub mod Verdict
 pub mod Told
 pub mod Meaning
+pub mod Records
 pub mod ByRecords
+pub mod Apart
 pub mod Small

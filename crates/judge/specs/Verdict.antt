@@ -1,5 +1,6 @@
 -- Document 01, "What each call answers": the judge.
 use Prim.Native.Nat.{ℕ}
+use mathlib.Core.Path.{_≡_}
 use mathlib.Core.Bool.{cond}
 use mathlib.Core.List.{List}
 use lib.Dec.{eqb}
@@ -43,3 +44,7 @@ orTaken verdict file taken =
 -- the calls of document 01 read text on page 0
 unfoldable pub judgeOf : List ℕ → List ℕ → List ℕ → List ℕ → Verdict
 judgeOf file transfer cheque taken = orTaken (verdictOf 0 file transfer cheque) file taken
+
+-- what is promised of judging: the answer, for every input
+abbrev pub JudgedAs : List ℕ → List ℕ → List ℕ → List ℕ → Verdict → Type 0
+JudgedAs file transfer cheque taken answer = answer ≡ judgeOf file transfer cheque taken

@@ -9,7 +9,7 @@ ghost use Prim.Native.Nat.{_+_, _*_, _≤_, _<_};
 ghost use lib.ListN.{length};
 ghost use Rattle.judge.specs.Content.{faultOf, ruleFrom, ruleEnd, contentOf};
 ghost use Rattle.judge.specs.Sums.{euros, cents, euroSum, centSum, fileNumber};
-ghost use Rattle.judge.specs.Verdict.{refused, verdictOf, judgeOf};
+ghost use Rattle.judge.specs.Verdict.{refused, verdictOf, JudgedAs};
 
 // The first broken rule and its record; number 0 where none is broken.
 pub struct Breach {
@@ -188,7 +188,7 @@ pub fn examine(page: u32, file: &[u8], transfer: &[u8], cheque: &[u8]) -> Verdic
 
 // The judge of document 01: the verdict on page 0, and then the taken numbers.
 pub fn judge(file: &[u8], transfer: &[u8], cheque: &[u8], taken: &[u64]) -> Verdict
-    ensures { λ r. ⌜ r ≡ judgeOf (now (file .entry)) (now (transfer .entry)) (now (cheque .entry)) (now (taken .entry)) ⌝ }
+    ensures { λ r. ⌜ JudgedAs (now (file .entry)) (now (transfer .entry)) (now (cheque .entry)) (now (taken .entry)) r ⌝ }
 {
     let found = examine(0, file, transfer, cheque);
     let number = found.number;

@@ -79,12 +79,15 @@ pub record Held (s : Span) (rec xs : List ℕ) : Type 0 where
   pub bytes : xs ≡ part s rec
   pub long : length xs ≡ s .end - s .start
 
-pub held : {n : ℕ} {from at : ℕ × ℕ} {xs : List ℕ} {r s : Span} (rec : List ℕ) → PartOf r from rec at xs → r ≡ s → Inside n s
-    → length rec ≡ n → Held s rec xs
+pub held : {n : ℕ} {xs : List ℕ} (s : Span) (rec : List ℕ) → xs ≡ part s rec → Inside n s → length rec ≡ n → Held s rec xs
 unfolding part
-held {s = s} rec p q h l =
-    let e = p .holds ∙ ap (λ (s : Span). part s rec) q in
+held s rec e h l =
     record { bytes = e; long = ap length e ∙ simp (length-take, length-drop) (omega (arith, h .0, h .1)) }
+
+-- the same of a part at r, which is the place s
+pub held-at : {n : ℕ} {from at : ℕ × ℕ} {xs : List ℕ} {r : Span} (s : Span) (rec : List ℕ) → PartOf r from rec at xs → r ≡ s → Inside n s
+    → length rec ≡ n → Held s rec xs
+held-at s rec p e h l = held s rec (p .holds ∙ ap (λ (r : Span). part r rec) e) h l
 
 -- every text field lies in its record; a number that is none is nowhere
 pub q-text-inside : (f : ℕ) → Inside 256 (qText f)

@@ -1,12 +1,12 @@
 use borrow.Author.Needs.{needs}
-use Rattle.records.specs.Inside.{inside, held, z-inside}
+use Rattle.records.specs.Inside.{inside, held-at, z-inside}
 use Rattle.records.proofs.Z.field.Statement.{statement}
 use Rattle.records.proofs.Z.field.Tie as tie
 
 returns : tie.Need-returns
 returns c =
     let a = c .before .before .before .args in
-    held (a .rec .now) (c .part .ensures) (c .before .place .ensures) (z-inside (a .field)) (c .before .before .before .pre)
+    held-at _ (a .rec .now) (c .part .ensures) (c .before .place .ensures) (z-inside (a .field)) (c .before .before .before .pre)
 
 pub field-spec : {M : Type 1} → statement M
 field-spec =
