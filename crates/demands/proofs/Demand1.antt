@@ -32,10 +32,10 @@ module _ (file transfer cheque : List ℕ) where
   broken-rule m j i (inr (inr w)) = inr (content-rule 0 transfer cheque file m j i w)
 
   -- a number that is 0 or a rule's
-  abbrev Told : ℕ → Type 0
+  abbrev pub Told : ℕ → Type 0
   Told n = (n ≡ 0) ⊎ FileRule n
 
-  told : Told (verdictOf 0 file transfer cheque .number)
+  pub told : Told (verdictOf 0 file transfer cheque .number)
   told = go (eqb (verdictOf 0 file transfer cheque .number) 0) refl
     where
       go : (b : Bool) → eqb (verdictOf 0 file transfer cheque .number) 0 ≡ b → Told (verdictOf 0 file transfer cheque .number)
@@ -49,14 +49,19 @@ wide : {A : Type 0} (n : ℕ) → (n ≡ 0) ⊎ FileRule n → (n ≡ 0) ⊎ (Fi
 wide n (inl z) = inl z
 wide n (inr r) = inr (inl r)
 
-pub judge-numbers : JudgeNumbers
+abbrev JudgesTo : Verdict → Type 0
+JudgesTo v = (v .number ≡ 0) ⊎ (FileRule (v .number) ⊎ (v .number ≡ 50))
+
+judges : (file transfer cheque taken : List ℕ) → JudgesTo (judgeOf file transfer cheque taken)
 unfolding judgeOf
-judge-numbers file transfer cheque taken =
-    let Among : Verdict → Type 0 = λ v. (v .number ≡ 0) ⊎ (FileRule (v .number) ⊎ (v .number ≡ 50)) in
+judges file transfer cheque taken =
     let verdict = verdictOf 0 file transfer cheque in
-    let plain : Among verdict = wide (verdict .number) (told file transfer cheque) in
-    either Among (eqb (verdict .number) 0) _ _
-    (either Among (isTaken taken (fileNumber (slotAt file 0))) _ _ (inr (inr refl)) plain) plain
+    let plain : JudgesTo verdict = wide (verdict .number) (told file transfer cheque) in
+    either JudgesTo (eqb (verdict .number) 0) _ _
+    (either JudgesTo (isTaken taken (fileNumber (slotAt file 0))) _ _ (inr (inr refl)) plain) plain
+
+pub judge-numbers : JudgeNumbers
+judge-numbers file transfer cheque taken answer promise = rw promise (judges file transfer cheque taken)
 
 abbrev Prepares : Prepared → Type 0
 Prepares a = (a .number ≡ 0) ⊎ (FileRule (a .number) ⊎ ((a .number ≡ 60) ⊎ (a .number ≡ 61)))

@@ -38,7 +38,7 @@ module _ (page : ℕ) (transfer cheque file : List ℕ) where
   no-long m j i short t = omega (arith, t .long)
 
   -- the stage of each kind of fault
-  unfit-stage : (m j i : ℕ) → Unfit file m j i → stage m ≡ 1
+  pub unfit-stage : (m j i : ℕ) → Unfit file m j i → stage m ≡ 1
   unfit-stage m j i u = let r = walk-range j (slotAt file j) i m (u .broken) in stage-walk m (r .0) (r .1)
 
   pub content-rule : (m j i : ℕ) → Wrong page transfer cheque file m j i → ContentRule m
@@ -54,7 +54,7 @@ module _ (page : ℕ) (transfer cheque file : List ℕ) where
       go false true f = let r = t-range page transfer cheque (keyOf (slotAt file 1)) (slotAt file j) m f in inr (inl (r .0, omega (arith, r .1)))
       go false false f = let r = z-range (j - 1) (euroSum file (j - 1)) (slotAt file j) m f in inr (inr (r .0, omega (arith, r .1)))
 
-  content-stage : (m j i : ℕ) → Wrong page transfer cheque file m j i → stage m ≡ 2
+  pub content-stage : (m j i : ℕ) → Wrong page transfer cheque file m j i → stage m ≡ 2
   content-stage m j i w = stage-content m (low (content-rule m j i w))
     where
       low : ContentRule m → 10 ≤ m

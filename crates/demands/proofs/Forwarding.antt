@@ -1,14 +1,14 @@
--- What prepare leaves: each text character replaced, and the notes of what changed.
+-- What prepare leaves: each text character replaced, and the notes of what changed. There is one such file, and one such list.
 use Prim.Native.Nat.{ℕ, _+_, _*_, _<_}
 use mathlib.Core.Path.{_≡_, refl, sym, ap, subst, _∙_}
-use mathlib.Core.Bool.{Bool, true, not, cond}
+use mathlib.Core.Bool.{Bool, true, false, not, cond}
 use mathlib.Core.List.{List}
 use native.Mathlib.Nat.{zero-add}
 use native.Mathlib.Omega.{arith}
 use borrow.Author.Tests.{eqb-false, ne-eqb, not-true}
 use lib.Dec.{eqb}
 use lib.ListN.{length, getD, drop, length-append}
-use lib.Seq.{drop-at}
+use lib.Seq.{drop-at, ext-getD}
 use Rattle.laws.specs.Choice.{on-eq, both}
 use Rattle.charset.specs.Table.{rep}
 use Rattle.forwarding.specs.Text.{textAt}
@@ -17,48 +17,73 @@ use Rattle.forwarding.specs.Put.{put}
 use Rattle.forwarding.specs.RoundTrip.{Bytes, forwarded-length}
 use Rattle.restore.specs.Origin.{success, prepared-origin}
 use Rattle.demands.specs.Forwarding.{Replaced, Changed, Listed, Forwards}
+use Rattle.demands.proofs.Alone.{same-rising}
 use Rattle.demands.proofs.Notes.{fwd-at, only-changed, every-changed, rising}
+use Rattle.demands.proofs.Demand2.{judged}
 
-module _ (file : List ℕ) where
-  differs-to : (i : ℕ) → i < length file → differs (rep 0) (textAt (length file)) i (getD file i 0) ≡ true → Changed file i
+module _ (page : ℕ) (file : List ℕ) where
+  differs-to : (i : ℕ) → i < length file → differs (rep page) (textAt (length file)) i (getD file i 0) ≡ true → Changed page file i
   differs-to i h e =
-      let w = both (textAt (length file) i) (not (eqb (rep 0 (getD file i 0)) (getD file i 0))) e in
+      let w = both (textAt (length file) i) (not (eqb (rep page (getD file i 0)) (getD file i 0))) e in
       record { below = h; text = w .0; other = eqb-false _ _ (not-true _ (w .1)) }
 
-  to-differs : (i : ℕ) → Changed file i → differs (rep 0) (textAt (length file)) i (getD file i 0) ≡ true
+  to-differs : (i : ℕ) → Changed page file i → differs (rep page) (textAt (length file)) i (getD file i 0) ≡ true
   to-differs i c = rw (c .text, ne-eqb _ _ (c .other))
 
   sent-at : (i : ℕ) → i < length file
-      → getD (forwarded 0 file) i 0 ≡ cond (textAt (length file) i) (rep 0 (getD file i 0)) (getD file i 0)
+      → getD (forwarded page file) i 0 ≡ cond (textAt (length file) i) (rep page (getD file i 0)) (getD file i 0)
   unfolding forwarded
   sent-at i h =
-      fwd-at (rep 0) (textAt (length file)) 0 file i h
-      ∙ ap (λ (j : ℕ). cond (textAt (length file) j) (rep 0 (getD file i 0)) (getD file i 0)) (zero-add i)
+      fwd-at (rep page) (textAt (length file)) 0 file i h
+      ∙ ap (λ (j : ℕ). cond (textAt (length file) j) (rep page (getD file i 0)) (getD file i 0)) (zero-add i)
 
   by-kind : (i : ℕ) {t : Bool} → i < length file → textAt (length file) i ≡ t
-      → getD (forwarded 0 file) i 0 ≡ cond t (rep 0 (getD file i 0)) (getD file i 0)
-  by-kind i h e = sent-at i h ∙ ap (λ (t : Bool). cond t (rep 0 (getD file i 0)) (getD file i 0)) e
+      → getD (forwarded page file) i 0 ≡ cond t (rep page (getD file i 0)) (getD file i 0)
+  by-kind i h e = sent-at i h ∙ ap (λ (t : Bool). cond t (rep page (getD file i 0)) (getD file i 0)) e
 
-  pub replaced : Replaced file (forwarded 0 file)
-  replaced = record { long = forwarded-length 0 file; text = λ i h e. by-kind i h e; rest = λ i h e. by-kind i h e }
+  pub replaced : Replaced page file (forwarded page file)
+  replaced = record { long = forwarded-length page file; text = λ i h e. by-kind i h e; rest = λ i h e. by-kind i h e }
 
-  every : (i : ℕ) → Changed file i → (k : ℕ) × (k < length (notesOf 0 file)) × (getD (notesOf 0 file) k 0 ≡ i * 256 + getD file i 0)
+  -- and no other list is so
+  pub replaced-one : (a b : List ℕ) → Replaced page file a → Replaced page file b → a ≡ b
+  replaced-one a b p q = ext-getD 0 a b (p .long ∙ sym (q .long)) (λ i h. at i (omega (arith, p .long)))
+    where
+      at : (i : ℕ) → i < length file → getD a i 0 ≡ getD b i 0
+      at i h = go (textAt (length file) i) refl
+        where
+          go : (t : Bool) → textAt (length file) i ≡ t → getD a i 0 ≡ getD b i 0
+          go true e = p .text i h e ∙ sym (q .text i h e)
+          go false e = p .rest i h e ∙ sym (q .rest i h e)
+
+  every : (i : ℕ) → Changed page file i → (k : ℕ) × (k < length (notesOf page file)) × (getD (notesOf page file) k 0 ≡ i * 256 + getD file i 0)
   unfolding notesOf
   every i c =
-      let changed = ap (λ (j : ℕ). differs (rep 0) (textAt (length file)) j (getD file i 0)) (zero-add i) ∙ to-differs i c in
-      let w = every-changed (rep 0) (textAt (length file)) 0 file i (c .below) changed in
+      let changed = ap (λ (j : ℕ). differs (rep page) (textAt (length file)) j (getD file i 0)) (zero-add i) ∙ to-differs i c in
+      let w = every-changed (rep page) (textAt (length file)) 0 file i (c .below) changed in
       (w .0, w .1, w .2 ∙ ap (λ (j : ℕ). j * 256 + getD file i 0) (zero-add i))
 
-  only : (k : ℕ) → k < length (notesOf 0 file) → (i : ℕ) × Changed file i × (getD (notesOf 0 file) k 0 ≡ i * 256 + getD file i 0)
+  only : (k : ℕ) → k < length (notesOf page file) → (i : ℕ) × Changed page file i × (getD (notesOf page file) k 0 ≡ i * 256 + getD file i 0)
   unfolding notesOf
   only k h =
-      let n = only-changed (rep 0) (textAt (length file)) 0 file k h in
-      let changed = ap (λ (j : ℕ). differs (rep 0) (textAt (length file)) j (getD file (n .at) 0)) (sym (zero-add (n .at))) ∙ n .changed in
+      let n = only-changed (rep page) (textAt (length file)) 0 file k h in
+      let changed = ap (λ (j : ℕ). differs (rep page) (textAt (length file)) j (getD file (n .at) 0)) (sym (zero-add (n .at))) ∙ n .changed in
       (n .at, differs-to (n .at) (n .below) changed, n .note ∙ ap (λ (j : ℕ). j * 256 + getD file (n .at) 0) (zero-add (n .at)))
 
-  pub listed : Bytes file → Listed file (notesOf 0 file)
+  pub listed : Bytes file → Listed page file (notesOf page file)
   unfolding notesOf
-  listed bytes = record { every = every; only = only; rising = rising (rep 0) (textAt (length file)) 0 file bytes }
+  listed bytes = record { every = every; only = only; rising = rising (rep page) (textAt (length file)) 0 file bytes }
+
+  -- each note of one list is in the other, and both rise
+  pub listed-one : (a b : List ℕ) → Listed page file a → Listed page file b → a ≡ b
+  listed-one a b p q =
+      same-rising a b (λ j k l h. omega (arith, p .rising j k l h)) (λ j k l h. omega (arith, q .rising j k l h)) (among a b p q) (among b a q p)
+    where
+      among : (a b : List ℕ) → Listed page file a → Listed page file b → (k : ℕ) → k < length a
+          → (j : ℕ) × (j < length b) × (getD b j 0 ≡ getD a k 0)
+      among a b p q k h =
+          let o = p .only k h in
+          let w = q .every (o .0) (o .1) in
+          (w .0, w .1, w .2 ∙ sym (o .2))
 
 -- behind what was put in front, all is as it was
 behind : (xs ys : List ℕ) (n : ℕ) → length xs ≡ n → drop n (put 0 xs ys) ≡ drop n ys
@@ -71,14 +96,14 @@ forwards file transfer cheque out notes out' notes' answer bytes promise z =
     let o = prepared-origin 0 transfer cheque file out notes out' notes' answer promise z bytes in
     let count : length (notesOf 0 file) ≡ answer .notes = sym (success 0 transfer cheque file out notes out' notes' answer promise z .1) in
     record {
-      sound = o .sound;
-      output = subst (Replaced file) (o .forwards) (replaced file);
+      sound = judged 0 transfer cheque file .sound .0 (o .sound);
+      output = subst (Replaced 0 file) (o .forwards) (replaced 0 file);
       output-rest =
           ap (drop (length file)) (promise .out-is ∙ sym (on-eq _ z refl)) ∙ behind (forwarded 0 file) out (length file) (forwarded-length 0 file);
       counted =
           omega
           (arith, count, ap length (promise .notes-are ∙ sym (on-eq _ z refl)), length-append (notesOf 0 file) (drop (0 + length (notesOf 0 file)) notes));
-      noted = subst (Listed file) (o .notes-are) (listed file bytes);
+      noted = subst (Listed 0 file) (o .notes-are) (listed 0 file bytes);
       notes-rest =
           ap (drop (answer .notes)) (promise .notes-are ∙ sym (on-eq _ z refl)) ∙ behind (notesOf 0 file) notes (answer .notes) count;
     }

@@ -1,49 +1,94 @@
--- The judge with taken numbers: the verdict, or 50 where a sound file's number is taken.
-use Prim.Native.Nat.{ℕ}
-use mathlib.Core.Path.{_≡_, refl, sym, _∙_}
+-- The judge's answer: of a sound file its payments and sums, or 50 where its number is taken; of any other the first broken
+-- rule, and zeros.
+use Prim.Native.Nat.{ℕ, _+_}
+use mathlib.Core.Path.{_≡_, refl, sym, ap, ap₂, subst, _∙_}
 use mathlib.Core.Bool.{Bool, true, false, cond, false≢true}
 use mathlib.Core.List.{List}
-use mathlib.Core.Logic.{inl, inr}
-use native.Mathlib.Omega.{arith}
 use borrow.Author.Tests.{eqb-true, eqb-false}
 use lib.Dec.{eqb}
+use lib.ListN.{length}
 use Rattle.fields.specs.Lists.{isTaken}
 use Rattle.structure.specs.Slots.{slotAt}
 use Rattle.structure.specs.Walk.{structureOf}
-use Rattle.structure.specs.Fits.{Tells, tells}
+use Rattle.structure.specs.Fits.{Fit}
 use Rattle.structure.specs.declared.Shape.{Shape}
 use Rattle.structure.specs.declared.Shape.the-variants.{Fits, Refused}
-use Rattle.judge.specs.Sums.{euroSum, centSum, fileNumber}
+use Rattle.judge.specs.Sums.{euros, cents, euroSum, centSum, fileNumber}
+use Rattle.judge.specs.Records.{fileOf, sumOf}
+use Rattle.judge.specs.ByRecords.{sum-by-records, cents-by-records}
+use Rattle.judge.specs.Apart.{slotsFrom, slots-count, made}
 use Rattle.judge.specs.Content.{contentOf}
 use Rattle.judge.specs.Verdict.{refused, sound, unless, verdictBy, verdictOf, judgeOf}
+use Rattle.judge.specs.Told.{told-fits, sound-fits}
 use Rattle.judge.specs.declared.Breach.{Breach}
 use Rattle.judge.specs.declared.Verdict.{Verdict}
-use Rattle.demands.specs.Demand2.{Answered, JudgedAs, JudgeAnswers}
+use Rattle.demands.specs.Demand2.{Answered, Counted, Zeros, Judges, JudgeAnswers}
 use Rattle.demands.proofs.Demand2.{judged}
 
--- a sound file is told at record 0
-sound-at-0 : (fault : Breach) (n euros cents : ℕ) → unless fault (sound n euros cents) .number ≡ 0 → unless fault (sound n euros cents) .rec ≡ 0
-sound-at-0 fault n euros cents = go (eqb (fault .number) 0) refl
-  where
-    v : Bool → Verdict
-    v t = cond t (sound n euros cents) (refused (fault .number) (fault .rec))
+-- by what the rules found, fault: the answer of a sound file, or a refusal
+module _ (fault : Breach) (v : Verdict) where
+  unless-sound : v .number ≡ 0 → unless fault v .number ≡ 0 → unless fault v ≡ v
+  unless-sound z = go (eqb (fault .number) 0) refl
+    where
+      go : (t : Bool) → eqb (fault .number) 0 ≡ t → cond t v (refused (fault .number) (fault .rec)) .number ≡ 0
+          → cond t v (refused (fault .number) (fault .rec)) ≡ v
+      go true e q = refl
+      go false e q = absurd (eqb-false _ _ e q)
 
-    go : (t : Bool) → eqb (fault .number) 0 ≡ t → v t .number ≡ 0 → v t .rec ≡ 0
-    go true e z = refl
-    go false e z = absurd (eqb-false _ _ e z)
+  unless-zeros : v .number ≡ 0 → (unless fault v .number ≡ 0 → ⊥) → Zeros (unless fault v)
+  unless-zeros z = go (eqb (fault .number) 0)
+    where
+      go : (t : Bool) → (cond t v (refused (fault .number) (fault .rec)) .number ≡ 0 → ⊥) → Zeros (cond t v (refused (fault .number) (fault .rec)))
+      go true n = absurd (n z)
+      go false n = (refl, refl, refl)
 
-at-0 : (file transfer cheque : List ℕ) → verdictOf 0 file transfer cheque .number ≡ 0 → verdictOf 0 file transfer cheque .rec ≡ 0
-unfolding verdictOf
-at-0 file transfer cheque = go (structureOf file) (tells file)
-  where
-    go : (s : Shape) → Tells file s → verdictBy s 0 file transfer cheque .number ≡ 0 → verdictBy s 0 file transfer cheque .rec ≡ 0
-    go (Fits n) t z = sound-at-0 (contentOf 0 file n (euroSum file n) transfer cheque) n (euroSum file n) (centSum file n) z
-    go (Refused number rec) (inl t) z = absurd (omega (arith, t .1, z))
-    go (Refused number rec) (inr t) z = absurd (t .1 .real z)
+module _ (file transfer cheque : List ℕ) where
+  pub refused-zeros : (verdictOf 0 file transfer cheque .number ≡ 0 → ⊥) → Zeros (verdictOf 0 file transfer cheque)
+  unfolding verdictOf
+  refused-zeros = go (structureOf file)
+    where
+      go : (s : Shape) → (verdictBy s 0 file transfer cheque .number ≡ 0 → ⊥) → Zeros (verdictBy s 0 file transfer cheque)
+      go (Refused number rec) n = (refl, refl, refl)
+      go (Fits m) n =
+          unless-zeros (contentOf 0 file m (euroSum file m) transfer cheque) (sound m (euroSum file m) (centSum file m)) refl n
 
-pub judge-answers : JudgeAnswers
+  -- a sound file of n payments
+  module _ (z : verdictOf 0 file transfer cheque .number ≡ 0) (n : ℕ) (e : structureOf file ≡ Fits n) (fit : Fit file n) where
+    v-is : verdictOf 0 file transfer cheque ≡ sound n (euroSum file n) (centSum file n)
+    v-is =
+        let told = told-fits 0 file transfer cheque n e in
+        sym told
+        ∙ unless-sound (contentOf 0 file n (euroSum file n) transfer cheque) (sound n (euroSum file n) (centSum file n)) refl
+        (ap (λ (v : Verdict). v .number) told ∙ z)
+
+    -- a sum over the file's records is one over the T records that make it up
+    by-records : (total : List ℕ → ℕ → ℕ) (f : List ℕ → ℕ)
+        → total (fileOf (slotAt file 0) (slotsFrom file 1 n) (slotAt file (n + 1))) (length (slotsFrom file 1 n)) ≡ sumOf f (slotsFrom file 1 n)
+        → total file n ≡ sumOf f (slotsFrom file 1 n)
+    by-records total f q = ap₂ total (made file n fit .1) (sym (slots-count file 1 n)) ∙ q
+
+    counted : Counted file (verdictOf 0 file transfer cheque)
+    counted =
+        let lengths = made file n fit .0 in
+        record {
+          q = slotAt file 0;
+          ts = slotsFrom file 1 n;
+          z = slotAt file (n + 1);
+          made = made file n fit;
+          payments-are = ap (λ (v : Verdict). v .payments) v-is ∙ sym (slots-count file 1 n);
+          euros-are = ap (λ (v : Verdict). v .euros) v-is ∙ by-records euroSum euros (sum-by-records _ _ _ lengths);
+          cents-are = ap (λ (v : Verdict). v .cents) v-is ∙ by-records centSum cents (cents-by-records _ _ _ lengths);
+        }
+
+  sound-told : verdictOf 0 file transfer cheque .number ≡ 0
+      → (verdictOf 0 file transfer cheque .rec ≡ 0) × Counted file (verdictOf 0 file transfer cheque)
+  sound-told z =
+      let f = sound-fits 0 file transfer cheque z in
+      (ap (λ (v : Verdict). v .rec) (v-is z (f .0) (f .1) (f .2)), counted z (f .0) (f .1) (f .2))
+
+judges : (file transfer cheque taken : List ℕ) → Judges transfer cheque taken file (judgeOf file transfer cheque taken)
 unfolding judgeOf
-judge-answers file transfer cheque taken = go (eqb (v .number) 0) (isTaken taken (fileNumber (slotAt file 0))) refl refl
+judges file transfer cheque taken = go (eqb (v .number) 0) (isTaken taken (fileNumber (slotAt file 0))) refl refl
   where
     v : Verdict
     v = verdictOf 0 file transfer cheque
@@ -52,13 +97,29 @@ judge-answers file transfer cheque taken = go (eqb (v .number) 0) (isTaken taken
     a = judged 0 transfer cheque file
 
     go : (zero used : Bool) → eqb (verdictOf 0 file transfer cheque .number) 0 ≡ zero → isTaken taken (fileNumber (slotAt file 0)) ≡ used
-        → JudgedAs transfer cheque taken file (cond zero (cond used (refused 50 0) (verdictOf 0 file transfer cheque)) (verdictOf 0 file transfer cheque))
+        → Judges transfer cheque taken file (cond zero (cond used (refused 50 0) (verdictOf 0 file transfer cheque)) (verdictOf 0 file transfer cheque))
     go true true e t =
-        let z = eqb-true _ _ e in
-        record { free = λ s f. absurd (false≢true (sym f ∙ t)); used = λ s u. (refl, refl); refused = λ n. absurd (n (a .sound .0 z)) }
+        record {
+          free = λ s f. absurd (false≢true (sym f ∙ t));
+          used = λ s u. (refl, refl, (refl, refl, refl));
+          unsound = λ n. absurd (n (a .sound .0 (eqb-true _ _ e)));
+        }
     go true false e t =
         let z = eqb-true _ _ e in
-        record { free = λ s f. (z, at-0 file transfer cheque z); used = λ s u. absurd (false≢true (sym t ∙ u)); refused = λ n. a }
+        let told = sound-told file transfer cheque z in
+        record {
+          free = λ s f. (z, told .0, told .1);
+          used = λ s u. absurd (false≢true (sym t ∙ u));
+          unsound = λ n. absurd (n (a .sound .0 z));
+        }
     go false used e t =
         let ne = eqb-false _ _ e in
-        record { free = λ s f. absurd (ne (a .sound .1 s)); used = λ s u. absurd (ne (a .sound .1 s)); refused = λ n. a }
+        record {
+          free = λ s f. absurd (ne (a .sound .1 s));
+          used = λ s u. absurd (ne (a .sound .1 s));
+          unsound = λ n. (a .first ne, refused-zeros file transfer cheque ne);
+        }
+
+pub judge-answers : JudgeAnswers
+judge-answers file transfer cheque taken answer promise =
+    subst (Judges transfer cheque taken file) (sym promise) (judges file transfer cheque taken)

@@ -1,23 +1,63 @@
 -- Every promise leaves one outcome.
-use mathlib.Core.Path.{_≡_, sym, ap, _∙_}
-use Rattle.prepare.specs.Prepared.{outputAfter, notesAfter}
+use Prim.Native.Nat.{_+_}
+use mathlib.Core.Path.{_≡_, refl, sym, ap, _∙_}
+use lib.ListN.{length}
+use Rattle.records.specs.Places.{part}
+use Rattle.prepare.specs.Prepared.{prepareOf, outputAfter, notesAfter}
 use Rattle.prepare.specs.declared.Prepared.{Prepared}
-use Rattle.restore.specs.Origin.{one-outcome}
-use Rattle.demands.specs.Settled.{JudgeSettled, PrepareSettled, RestoreSettled, ShowSettled}
+use Rattle.restore.specs.Restored.{restoreOf, restoredInto}
+use Rattle.restore.specs.declared.Restored.{Restored}
+use Rattle.show.specs.Shown.{shownAt}
+use Rattle.demands.specs.Settled.{Settled, JudgeSettled, PrepareSettled, RestoreSettled, ShowSettled, TellSettled, DeskJudgeSettled, DeskShowSettled}
+
+-- a promise that says what the answer equals
+equal : {A : Type 0} (b : A) → Settled (λ (a : A). a ≡ b)
+equal b = record { some = (b, refl); coincide = λ x y p q. p ∙ sym q }
 
 pub judge-settled : JudgeSettled
-judge-settled file transfer cheque taken a b p q = p ∙ sym q
+judge-settled file transfer cheque taken = equal _
 
 pub prepare-settled : PrepareSettled
-prepare-settled file transfer cheque out notes out₁ notes₁ out₂ notes₂ a b p q =
-    let same : a ≡ b = p .answer-is ∙ sym (q .answer-is) in (
-      same,
-      p .out-is ∙ ap (λ (r : Prepared). outputAfter r 0 file out) same ∙ sym (q .out-is),
-      p .notes-are ∙ ap (λ (r : Prepared). notesAfter r 0 file notes) same ∙ sym (q .notes-are),
-    )
+prepare-settled file transfer cheque out notes =
+    record {
+      some =
+          let answer = prepareOf 0 file transfer cheque out notes in
+          ((answer, outputAfter answer 0 file out, notesAfter answer 0 file notes), record { answer-is = refl; out-is = refl; notes-are = refl });
+      coincide =
+          λ x y p q.
+          let same : x .0 ≡ y .0 = p .answer-is ∙ sym (q .answer-is) in
+          let outs = p .out-is ∙ ap (λ (r : Prepared). outputAfter r 0 file out) same ∙ sym (q .out-is) in
+          let places = p .notes-are ∙ ap (λ (r : Prepared). notesAfter r 0 file notes) same ∙ sym (q .notes-are) in
+          λ i. (same i, outs i, places i);
+    }
 
 pub restore-settled : RestoreSettled
-restore-settled sent notes transfer cheque out out₁ out₂ a b p q = one-outcome 0 transfer cheque sent notes out out₁ out₂ a b p q
+restore-settled sent notes transfer cheque out =
+    record {
+      some =
+          let answer = restoreOf 0 sent notes transfer cheque (length out) in
+          ((answer, restoredInto answer sent notes out), record { answer-is = refl; out-is = refl });
+      coincide =
+          λ x y p q.
+          let same : x .0 ≡ y .0 = p .answer-is ∙ sym (q .answer-is) in
+          let outs = p .out-is ∙ ap (λ (r : Restored). restoredInto r sent notes out) same ∙ sym (q .out-is) in
+          λ i. (same i, outs i);
+    }
 
 pub show-settled : ShowSettled
-show-settled file rec field a b p q = p ∙ sym q
+show-settled from file k f =
+    record {
+      some =
+          let s = shownAt file k f in
+          (((from .0, s .start + from .1), part s file), record { there = refl; holds = refl });
+      coincide = λ x y p q. λ i. ((p .there ∙ sym (q .there)) i, (p .holds ∙ sym (q .holds)) i);
+    }
+
+pub tell-settled : TellSettled
+tell-settled input = equal _
+
+pub desk-judge-settled : DeskJudgeSettled
+desk-judge-settled file transfer cheque = equal _
+
+pub desk-show-settled : DeskShowSettled
+desk-show-settled file k f = equal _

@@ -2,7 +2,6 @@
 use Prim.Native.Nat.{ℕ}
 use Prim.Native.Char.{code}
 use mathlib.Core.Bool.{Bool, _&&_, not}
-use Prim.Native.String.{String}
 use mathlib.Core.List.{List, [], _∷_, _++_}
 use lib.Dec.{eqb, T}
 use Rattle.laws.specs.Ascii.{ascii}
@@ -11,20 +10,13 @@ use Rattle.fields.specs.Class.{every}
 use Rattle.fields.specs.Number.{isDate}
 use Rattle.fields.specs.Bic.{bicShape}
 use Rattle.judge.specs.Verdict.{judgeOf}
-use Rattle.demands.specs.Sample.{q, t, z, transfer, cheque}
+use Rattle.demands.specs.Sample.{q, z, one, two, transfer, cheque}
 
 -- the judge's answer to a file, without taken numbers: number and record
 abbrev answers : List ℕ → ℕ → ℕ → Bool
 answers file number rec =
     let v = judgeOf file transfer cheque [] in
     eqb (v .number) number && eqb (v .rec) rec
-
--- one payment to a payee, and two payments of 120,50 and 79,75
-abbrev one : String → String → List ℕ
-one payee cents = q ++ t payee "00000000000120" cents ++ z "000000000000120" "000000000000001"
-
-abbrev two : String → List ℕ
-two euros = q ++ t "A. MUSTER" "00000000000120" "500" ++ t "B. MUSTER" "00000000000079" "750" ++ z euros "000000000000002"
 
 -- a case's number in document 01, and whether it holds
 abbrev pub cases : List (ℕ × Bool)
@@ -40,7 +32,7 @@ cases =
     ∷ (9, not (bicShape 0 (ascii "SC123456   ")))
     ∷ (10, answers (one "A. MUSTER" "500") 0 0 && answers (one "A. MUSTER" "505") 33 1)
     ∷ (11, answers (one "===================================" "500") 29 1)
-    ∷ (12, answers (two "000000000000199") 0 0 && answers (two "000000000000200") 42 3)
+    ∷ (12, answers (two "B. MUSTER" "000000000000199") 0 0 && answers (two "B. MUSTER" "000000000000200") 42 3)
     ∷ []
 
 abbrev pub Cases : Type 0

@@ -1,15 +1,19 @@
--- Demand 1: "Every call ends with an answer or a numbered refusal, and a refused call changes no byte that it was lent."
--- Which numbers a call can answer, by document 01's table; show answers a part. And what is left of lent memory: judge and
--- show are lent nothing for writing; prepare is lent output and note places, restore an output.
+-- Demand 1: "Any bytes, any country lists, any room may be handed in. Every call ends with an answer or a numbered refusal, and
+-- a refused call changes no byte that it was lent." Which numbers a call can answer, by document 01's table; show answers a
+-- part. And what is left of lent memory: judge, show and the program are lent nothing for writing; prepare is lent output and
+-- note places, restore an output.
 use Prim.Native.Nat.{ℕ, _≤_}
 use mathlib.Core.Path.{_≡_}
 use mathlib.Core.List.{List}
 use mathlib.Core.Logic.{_⊎_}
-use Rattle.judge.specs.Verdict.{judgeOf}
+use Rattle.judge.specs.Verdict.{JudgedAs}
+use Rattle.judge.specs.declared.Verdict.{Verdict}
 use Rattle.prepare.specs.Prepared.{PreparedAs}
 use Rattle.prepare.specs.declared.Prepared.{Prepared}
 use Rattle.restore.specs.Restored.{RestoredAs}
 use Rattle.restore.specs.declared.Restored.{Restored}
+use Rattle.report.specs.Report.{ToldAs}
+use Rattle.report.specs.declared.Report.{Report}
 
 -- rules 10 to 42, and all rules of a file
 abbrev pub ContentRule : ℕ → Type 0
@@ -20,9 +24,8 @@ FileRule n = ((1 ≤ n) × (n ≤ 5)) ⊎ ContentRule n
 
 abbrev pub JudgeNumbers : Type 0
 JudgeNumbers =
-    (file transfer cheque taken : List ℕ)
-    → (judgeOf file transfer cheque taken .number ≡ 0)
-    ⊎ (FileRule (judgeOf file transfer cheque taken .number) ⊎ (judgeOf file transfer cheque taken .number ≡ 50))
+    (file transfer cheque taken : List ℕ) (answer : Verdict) → JudgedAs file transfer cheque taken answer
+    → (answer .number ≡ 0) ⊎ (FileRule (answer .number) ⊎ (answer .number ≡ 50))
 
 abbrev pub PrepareNumbers : Type 0
 PrepareNumbers =
@@ -35,6 +38,11 @@ RestoreNumbers =
     (sent notes transfer cheque out out' : List ℕ) (answer : Restored)
     → RestoredAs 0 sent notes transfer cheque out answer out'
     → (answer .number ≡ 0) ⊎ ((answer .number ≡ 60) ⊎ (answer .number ≡ 70))
+
+abbrev pub TellNumbers : Type 0
+TellNumbers =
+    (input : List ℕ) (answer : Report) → ToldAs input answer
+    → (answer .verdict ≡ 0) ⊎ (FileRule (answer .verdict) ⊎ (answer .verdict ≡ 6))
 
 abbrev pub PrepareKeeps : Type 0
 PrepareKeeps =

@@ -5,10 +5,12 @@ use mathlib.Core.Path.{_≡_}
 use mathlib.Core.List.{List}
 use mathlib.Core.Logic.{_↔_}
 use mathlib.Core.Bool.{true, false}
+use lib.ListN.{length}
 use Rattle.fields.specs.Lists.{isTaken}
 use Rattle.structure.specs.Slots.{slotAt}
-use Rattle.judge.specs.Sums.{fileNumber}
-use Rattle.judge.specs.Verdict.{verdictOf, judgeOf}
+use Rattle.judge.specs.Sums.{euros, cents, fileNumber}
+use Rattle.judge.specs.Records.{MadeOf, sumOf}
+use Rattle.judge.specs.Verdict.{verdictOf, JudgedAs}
 use Rattle.judge.specs.declared.Verdict.{Verdict}
 use Rattle.demands.specs.Broken.{Broken, Before}
 
@@ -32,12 +34,36 @@ Judged =
     (page : ℕ) (transfer cheque file : List ℕ)
     → Answered page transfer cheque file (verdictOf page file transfer cheque .number) (verdictOf page file transfer cheque .rec)
 
+-- there is one first broken rule at most
+abbrev pub FirstIsOne : Type 0
+FirstIsOne =
+    (page : ℕ) (transfer cheque file : List ℕ) (m j n k : ℕ) (a : First page transfer cheque file m j) (b : First page transfer cheque file n k)
+    → (m ≡ n) × (j ≡ k) × (a .turn ≡ b .turn)
+
+-- "if 0, [..] the number of payments, the euro sum of T14a and the cent sum", over the records that make up the file
+pub record Counted (file : List ℕ) (answer : Verdict) : Type 0 where
+  pub q : List ℕ
+  pub ts : List (List ℕ)
+  pub z : List ℕ
+  pub made : MadeOf file q ts z
+  pub payments-are : answer .payments ≡ length ts
+  pub euros-are : answer .euros ≡ sumOf euros ts
+  pub cents-are : answer .cents ≡ sumOf cents ts
+
+-- "If refused, these three are 0."
+abbrev pub Zeros : Verdict → Type 0
+Zeros answer = (answer .payments ≡ 0) × (answer .euros ≡ 0) × (answer .cents ≡ 0)
+
 -- the judge's own answer: "Rule 50 belongs to the judge alone and comes after all others"
 module _ (transfer cheque taken file : List ℕ) where
-  pub record JudgedAs (answer : Verdict) : Type 0 where
-    pub free : Sound 0 transfer cheque file → isTaken taken (fileNumber (slotAt file 0)) ≡ false → (answer .number ≡ 0) × (answer .rec ≡ 0)
-    pub used : Sound 0 transfer cheque file → isTaken taken (fileNumber (slotAt file 0)) ≡ true → (answer .number ≡ 50) × (answer .rec ≡ 0)
-    pub refused : (Sound 0 transfer cheque file → ⊥) → Answered 0 transfer cheque file (answer .number) (answer .rec)
+  pub record Judges (answer : Verdict) : Type 0 where
+    pub free : Sound 0 transfer cheque file → isTaken taken (fileNumber (slotAt file 0)) ≡ false
+        → (answer .number ≡ 0) × (answer .rec ≡ 0) × Counted file answer
+    pub used : Sound 0 transfer cheque file → isTaken taken (fileNumber (slotAt file 0)) ≡ true
+        → (answer .number ≡ 50) × (answer .rec ≡ 0) × Zeros answer
+    pub unsound : (Sound 0 transfer cheque file → ⊥) → First 0 transfer cheque file (answer .number) (answer .rec) × Zeros answer
 
 abbrev pub JudgeAnswers : Type 0
-JudgeAnswers = (file transfer cheque taken : List ℕ) → JudgedAs transfer cheque taken file (judgeOf file transfer cheque taken)
+JudgeAnswers =
+    (file transfer cheque taken : List ℕ) (answer : Verdict) → JudgedAs file transfer cheque taken answer
+    → Judges transfer cheque taken file answer

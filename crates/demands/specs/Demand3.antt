@@ -1,7 +1,7 @@
 -- Demand 3: "Two different sound files never share forwarded file and notes. Restore accepts a pair exactly when some sound
 -- file yields it, and gives back that very file. The forwarded file is sound and yields itself, with no notes." Under fixed
 -- country lists, which every statement below is given first.
-use Prim.Native.Nat.{ℕ, _≤_}
+use Prim.Native.Nat.{ℕ, _≤_, _<_}
 use mathlib.Core.Path.{_≡_}
 use mathlib.Core.List.{List, []}
 use mathlib.Core.Logic.{_↔_}
@@ -13,21 +13,34 @@ use Rattle.prepare.specs.declared.Prepared.{Prepared}
 use Rattle.restore.specs.Yields.{SoundOrigin}
 use Rattle.restore.specs.Restored.{RestoredAs}
 use Rattle.restore.specs.declared.Restored.{Restored}
+use Rattle.demands.specs.Demand2.{Sound}
+use Rattle.demands.specs.Forwarding.{Replaced, Listed}
 
 module _ (transfer cheque : List ℕ) where
   -- a sound file that yields the forwarded file and the notes
   abbrev pub Yields : List ℕ → List ℕ → List ℕ → Type 0
   Yields file sent notes = SoundOrigin 0 transfer cheque file sent notes
 
+-- which is, in demand 2's words: a sound file of bytes, its text replaced, and its changed characters listed
+abbrev pub YieldsExactly : Type 0
+YieldsExactly =
+    (transfer cheque file sent notes : List ℕ)
+    → Yields transfer cheque file sent notes ↔ (Bytes file × Sound 0 transfer cheque file × Replaced 0 file sent × Listed 0 file notes)
+
 abbrev pub NeverShared : Type 0
 NeverShared = (transfer cheque f g sent notes : List ℕ) → Yields transfer cheque f sent notes → Yields transfer cheque g sent notes → f ≡ g
 
--- with room for the file: restore answers 0 exactly when some sound file yields the pair
+-- what restore answers: "60 first, then 70, record 0 for both"
+pub record Accepts (transfer cheque sent notes out : List ℕ) (answer : Restored) : Type 0 where
+  pub done : (answer .number ≡ 0) ↔ ((length sent ≤ length out) × ((file : List ℕ) × Yields transfer cheque file sent notes))
+  pub no-room : (answer .number ≡ 60) ↔ (length out < length sent)
+  pub no-file : (answer .number ≡ 70) ↔ ((length sent ≤ length out) × ((file : List ℕ) → Yields transfer cheque file sent notes → ⊥))
+  pub record-0 : answer .rec ≡ 0
+
 abbrev pub AcceptsExactly : Type 0
 AcceptsExactly =
-    (transfer cheque sent notes out out' : List ℕ) (answer : Restored) → Bytes sent → length sent ≤ length out
-    → RestoredAs 0 sent notes transfer cheque out answer out'
-    → (answer .number ≡ 0) ↔ ((file : List ℕ) × Yields transfer cheque file sent notes)
+    (transfer cheque sent notes out out' : List ℕ) (answer : Restored) → Bytes sent → RestoredAs 0 sent notes transfer cheque out answer out'
+    → Accepts transfer cheque sent notes out answer
 
 abbrev pub GivesBack : Type 0
 GivesBack =

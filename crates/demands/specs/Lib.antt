@@ -3,7 +3,9 @@ pub mod Cases
 pub mod Broken
 pub mod Demand1
 pub mod Demand2
-pub mod Show
 pub mod Forwarding
 pub mod Demand3
+pub mod Show
+pub mod Program
 pub mod Settled
+pub mod ShutOut

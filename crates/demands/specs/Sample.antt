@@ -2,9 +2,10 @@
 use Prim.Native.Nat.{ℕ}
 use Prim.Native.Char.{code}
 use Prim.Native.String.{String}
-use mathlib.Core.List.{List, _++_}
+use mathlib.Core.List.{List, [], _∷_, _++_}
 use lib.ListN.{take, replicate}
 use Rattle.laws.specs.Ascii.{ascii}
+use Rattle.judge.specs.Records.{fileOf}
 
 abbrev pub spaces : ℕ → List ℕ
 spaces n = replicate n (code " ")
@@ -32,6 +33,23 @@ t payee euros cents =
 -- Z3 and Z4
 abbrev pub z : String → String → List ℕ
 z euros payments = ascii "0256Z" ++ ascii euros ++ ascii payments ++ spaces 221
+
+-- one payment of 120 euros, with these cents, to a payee
+abbrev pub one : String → String → List ℕ
+one payee cents = fileOf q (t payee "00000000000120" cents ∷ []) (z "000000000000120" "000000000000001")
+
+-- two, of 120,50 and of 79,75, the second to a payee, with this Z3
+abbrev pub first : List ℕ
+first = t "A. MUSTER" "00000000000120" "500"
+
+abbrev pub second : String → List ℕ
+second payee = t payee "00000000000079" "750"
+
+abbrev pub last : String → List ℕ
+last euros = z euros "000000000000002"
+
+abbrev pub two : String → String → List ℕ
+two payee euros = fileOf q (first ∷ second payee ∷ []) (last euros)
 
 -- the lists that go with them
 abbrev pub transfer : List ℕ

@@ -1,31 +1,48 @@
 -- Document 01, "What every promise settles": "For each input, refused ones too, a public call's promise leaves one possible
--- answer and one possible content of all memory it was lent." Over what each call's `ensures` says.
+-- answer and one possible content of all memory it was lent. That any two permitted outcomes coincide is proved". Over the
+-- predicates that the calls' `ensures` state. `desk_judge_full`, `desk_prepare` and `desk_restore` promise `JudgedAs`,
+-- `PreparedAs` and `RestoredAs` too.
 use Prim.Native.Nat.{ℕ}
 use mathlib.Core.Path.{_≡_}
 use mathlib.Core.List.{List}
-use Rattle.judge.specs.Verdict.{judgeOf}
-use Rattle.judge.specs.declared.Verdict.{Verdict}
+use Rattle.judge.specs.Verdict.{JudgedAs}
 use Rattle.prepare.specs.Prepared.{PreparedAs}
 use Rattle.prepare.specs.declared.Prepared.{Prepared}
 use Rattle.restore.specs.Restored.{RestoredAs}
 use Rattle.restore.specs.declared.Restored.{Restored}
-use Rattle.show.specs.Shown.{shownOf}
+use Rattle.show.specs.Shown.{ShownAs}
+use Rattle.report.specs.Report.{ToldAs}
+use Rattle.host.specs.Answers.{CodedAs, PlacedAs}
+
+-- an outcome is permitted, and any two that are permitted coincide
+pub record Settled {A : Type 0} (Permitted : A → Type 0) : Type 0 where
+  pub some : (a : A) × Permitted a
+  pub coincide : (a b : A) → Permitted a → Permitted b → a ≡ b
 
 abbrev pub JudgeSettled : Type 0
-JudgeSettled =
-    (file transfer cheque taken : List ℕ) (a b : Verdict)
-    → a ≡ judgeOf file transfer cheque taken → b ≡ judgeOf file transfer cheque taken → a ≡ b
+JudgeSettled = (file transfer cheque taken : List ℕ) → Settled (JudgedAs file transfer cheque taken)
 
+-- an outcome of prepare: the answer, and what is left of the output and of the note places
 abbrev pub PrepareSettled : Type 0
 PrepareSettled =
-    (file transfer cheque out notes out₁ notes₁ out₂ notes₂ : List ℕ) (a b : Prepared)
-    → PreparedAs 0 file transfer cheque out notes a out₁ notes₁ → PreparedAs 0 file transfer cheque out notes b out₂ notes₂
-    → (a ≡ b) × (out₁ ≡ out₂) × (notes₁ ≡ notes₂)
+    (file transfer cheque out notes : List ℕ)
+    → Settled (λ (o : Prepared × List ℕ × List ℕ). PreparedAs 0 file transfer cheque out notes (o .0) (o .1) (o .2))
 
 abbrev pub RestoreSettled : Type 0
 RestoreSettled =
-    (sent notes transfer cheque out out₁ out₂ : List ℕ) (a b : Restored)
-    → RestoredAs 0 sent notes transfer cheque out a out₁ → RestoredAs 0 sent notes transfer cheque out b out₂ → (a ≡ b) × (out₁ ≡ out₂)
+    (sent notes transfer cheque out : List ℕ)
+    → Settled (λ (o : Restored × List ℕ). RestoredAs 0 sent notes transfer cheque out (o .0) (o .1))
 
+-- an outcome of show: where the part begins in the caller's memory, and its bytes
 abbrev pub ShowSettled : Type 0
-ShowSettled = (file : List ℕ) (rec field : ℕ) (a b : List ℕ) → a ≡ shownOf file rec field → b ≡ shownOf file rec field → a ≡ b
+ShowSettled = (from : ℕ × ℕ) (file : List ℕ) (k f : ℕ) → Settled (λ (o : (ℕ × ℕ) × List ℕ). ShownAs from file k f (o .0) (o .1))
+
+-- the program's numbers, and the two calls of hosts that have a promise of their own
+abbrev pub TellSettled : Type 0
+TellSettled = (input : List ℕ) → Settled (ToldAs input)
+
+abbrev pub DeskJudgeSettled : Type 0
+DeskJudgeSettled = (file transfer cheque : List ℕ) → Settled (CodedAs file transfer cheque)
+
+abbrev pub DeskShowSettled : Type 0
+DeskShowSettled = (file : List ℕ) (k f : ℕ) → Settled (PlacedAs file k f)

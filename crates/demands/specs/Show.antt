@@ -1,12 +1,20 @@
--- Document 01, "Show a field": "The part is empty exactly when the walk refuses, the record doesn't exist, or that record
--- has no such field."
-use Prim.Native.Nat.{ℕ, _≤_}
+-- Document 01, "Show a field": "from a file, a record number and a field number, the very part of the caller's bytes. The part
+-- is empty exactly when the walk refuses, the record doesn't exist, or that record has no such field."
+use Prim.Native.Nat.{ℕ, _+_, _≤_}
 use mathlib.Core.Path.{_≡_}
+use mathlib.Core.Bool.{cond}
 use mathlib.Core.List.{List, []}
 use mathlib.Core.Logic.{_⊎_, _↔_}
+use lib.Dec.{eqb}
+use lib.ListN.{length}
+use Rattle.records.specs.Places.{recordAt, part, qText, tText}
+use Rattle.records.specs.declared.Span.{Span}
+use Rattle.structure.specs.Slots.{slotAt}
 use Rattle.structure.specs.Walk.{structureOf}
 use Rattle.structure.specs.declared.Shape.the-variants.{Fits}
-use Rattle.show.specs.Shown.{shownOf}
+use Rattle.show.specs.Shown.{ShownAs}
+use Rattle.host.specs.Answers.{PlacedAs}
+use Rattle.host.specs.declared.Part.{Part}
 
 -- in a file of n payments record k is there and has text field f: 1 is in Q, 2 to 9 are in each T, and Z has none
 abbrev pub Has : ℕ → ℕ → ℕ → Type 0
@@ -17,4 +25,22 @@ abbrev pub There : List ℕ → ℕ → ℕ → Type 0
 There file k f = (n : ℕ) × (structureOf file ≡ Fits n) × Has n k f
 
 abbrev pub EmptyExactly : Type 0
-EmptyExactly = (file : List ℕ) (k f : ℕ) → (shownOf file k f ≡ []) ↔ (There file k f → ⊥)
+EmptyExactly =
+    (from at : ℕ × ℕ) (file bytes : List ℕ) (k f : ℕ) → ShownAs from file k f at bytes → (bytes ≡ []) ↔ (There file k f → ⊥)
+
+-- where text field f stands in record k
+abbrev pub fieldAt : ℕ → ℕ → Span
+fieldAt k f = cond (eqb k 0) (qText f) (tText f)
+
+-- a field that is there: the part begins at the record's place and the field's, from where the file begins, and is the bytes
+-- of that field of that record
+abbrev pub ShowsTheField : Type 0
+ShowsTheField =
+    (from at : ℕ × ℕ) (file bytes : List ℕ) (k f : ℕ) → There file k f → ShownAs from file k f at bytes
+    → (at ≡ (from .0, recordAt k + fieldAt k f .start + from .1)) × (bytes ≡ part (fieldAt k f) (slotAt file k))
+
+-- hosts in C get the place that show hands out, and how long the part is
+abbrev pub DeskShowsThePlace : Type 0
+DeskShowsThePlace =
+    (from at : ℕ × ℕ) (file bytes : List ℕ) (k f : ℕ) (answer : Part) → ShownAs from file k f at bytes → PlacedAs file k f answer
+    → (at ≡ (from .0, answer .start + from .1)) × (length bytes ≡ answer .length)

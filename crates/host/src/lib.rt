@@ -2,18 +2,15 @@
 use judge::Verdict;
 use prepare::Prepared;
 use restore::Restored;
-ghost use mathlib.Core.Path.{_≡_};
-ghost use mathlib.Core.List.{[]};
-ghost use Rattle.judge.specs.Verdict.{judgeOf};
+ghost use Rattle.judge.specs.Verdict.{JudgedAs};
 ghost use Rattle.prepare.specs.Prepared.{PreparedAs};
 ghost use Rattle.restore.specs.Restored.{RestoredAs};
-ghost use Rattle.show.specs.Shown.{shownAt};
-ghost use Rattle.host.specs.Answers.{answerOf, partOf};
+ghost use Rattle.host.specs.Answers.{CodedAs, PlacedAs};
 
 // The judge of document 01 for payroll hosts: no taken numbers, record × 100 + number.
 #[no_mangle]
 pub extern "C" fn desk_judge(file: &[u8], transfer: &[u8], cheque: &[u8]) -> usize
-    ensures { λ r. ⌜ r ≡ answerOf (judgeOf (now (file .entry)) (now (transfer .entry)) (now (cheque .entry)) []) ⌝ }
+    ensures { λ r. ⌜ CodedAs (now (file .entry)) (now (transfer .entry)) (now (cheque .entry)) r ⌝ }
 {
     let none = [0u64; 1];
     let found = judge::judge(file, transfer, cheque, &none[..0]);
@@ -27,7 +24,7 @@ pub extern "C" fn desk_judge_full(
     cheque: &[u8],
     taken: &[u64],
 ) -> Verdict
-    ensures { λ r. ⌜ r ≡ judgeOf (now (file .entry)) (now (transfer .entry)) (now (cheque .entry)) (now (taken .entry)) ⌝ }
+    ensures { λ r. ⌜ JudgedAs (now (file .entry)) (now (transfer .entry)) (now (cheque .entry)) (now (taken .entry)) r ⌝ }
 {
     judge::judge(file, transfer, cheque, taken)
 }
@@ -67,7 +64,7 @@ pub struct Part {
 
 #[no_mangle]
 pub extern "C" fn desk_show(file: &[u8], rec: usize, field: usize) -> Part
-    ensures { λ r. ⌜ r ≡ partOf (shownAt (now (file .entry)) rec field) ⌝ }
+    ensures { λ r. ⌜ PlacedAs (now (file .entry)) rec field r ⌝ }
 {
     let s = show::place(file, rec, field);
     let start = s.start;

@@ -1,7 +1,7 @@
 -- A loop over a list from the front: what is left at place i is the element there and what is left at i + 1, or nothing.
 -- A loop that carries a value along is `fold`; its invariant is that folding what is left gives what folding all gives.
 use Prim.Native.Nat.{ℕ, suc, _+_, _<_, _≤_}
-use mathlib.Core.Path.{_≡_, sym, ap, _∙_}
+use mathlib.Core.Path.{_≡_, refl, sym, ap, _∙_}
 use mathlib.Core.List.{List, [], _∷_, _++_, map, append-nil}
 use native.Mathlib.Numerals.{add-one}
 use native.Mathlib.Omega.{arith}
@@ -13,6 +13,10 @@ next s i d h = rw add-one (drop-cons s i d h)
 
 pub over : {A : Type 0} (s : List A) (i : ℕ) → length s ≤ i → drop i s ≡ []
 over s i h = drop-of-length-le s h
+
+pub empty : {A : Type 0} (s : List A) → length s ≡ 0 → s ≡ []
+empty [] e = refl
+empty (x ∷ s) e = absurd (omega arith)
 
 -- two at a time
 pub next-two : (s : List ℕ) (i : ℕ) → i + 1 < length s → drop i s ≡ getD s i 0 ∷ getD s (i + 1) 0 ∷ drop (i + 2) s

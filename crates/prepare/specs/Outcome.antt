@@ -1,11 +1,12 @@
 -- The promise by what the code found: a refusal, which writes nothing, or success.
 use Prim.Native.Nat.{ℕ, _+_, _≤_, _<_}
 use mathlib.Core.Path.{_≡_, refl, sym, ap, _∙_}
-use mathlib.Core.List.{List, [], _∷_, _++_}
+use mathlib.Core.List.{List, _++_}
 use native.Mathlib.Omega.{arith}
 use lib.ListN.{length, take, drop}
 use lib.Seq.{take-all}
 use Rattle.laws.specs.Choice.{on-lt, off-lt, on-eq, off-eq}
+use Rattle.laws.specs.Steps.{empty}
 use Rattle.judge.specs.Verdict.{verdictOf}
 use Rattle.judge.specs.Told.{sound-fits}
 use Rattle.judge.specs.declared.Verdict.{Verdict}
@@ -27,10 +28,6 @@ module _ (page : ℕ) (file : List ℕ) {r : Prepared} {number rec : ℕ} (e : r
 
   notes-kept : (notes : List ℕ) → notes ≡ notesAfter r page file notes
   notes-kept notes = off-eq _ no-zero refl
-
-empty : (xs : List ℕ) → length xs ≡ 0 → xs ≡ []
-empty [] e = refl
-empty (x ∷ xs) e = absurd (omega arith)
 
 module _ (page : ℕ) (file out notes : List ℕ) where
   refuses : {r : Prepared} {number rec : ℕ} → r ≡ notPrepared number rec → 0 < number → notPrepared number rec ≡ sendOf page file out notes

@@ -1,6 +1,7 @@
 -- Document 01: "The program reads standard input, at most 65,024 bytes (84 T records); more gives verdict 6 at record 0
 -- before any rule. It lends no taken numbers and counts the changed characters". "Refused: the last four lines show 0."
 use Prim.Native.Nat.{ℕ}
+use mathlib.Core.Path.{_≡_}
 use mathlib.Core.Bool.{cond}
 use mathlib.Core.List.{List, []}
 use lib.Dec.{eqb, ltb}
@@ -21,3 +22,7 @@ reportOf input =
     cond (ltb 65024 (length input)) (lines (refused 6 0) 0)
     (let v = judgeOf input annexII annexI [] in
     lines v (cond (eqb (v .number) 0) (length (notesOf 0 input)) 0))
+
+-- what is promised of telling: the six numbers, for every input
+abbrev pub ToldAs : List ℕ → Report → Type 0
+ToldAs input answer = answer ≡ reportOf input

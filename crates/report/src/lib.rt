@@ -1,7 +1,7 @@
 // What the program says of its input: the six numbers of document 01.
 use judge::Verdict;
 ghost use mathlib.Core.Path.{_≡_};
-ghost use Rattle.report.specs.Report.{lines, reportOf};
+ghost use Rattle.report.specs.Report.{lines, ToldAs};
 
 // Annex II and Annex I of source document 000, in document order.
 const ANNEX_II: [u8; 312] = *b"\
@@ -42,7 +42,7 @@ fn lines(found: Verdict, changes: usize) -> Report
 }
 
 pub fn tell(input: &[u8]) -> Report
-    ensures { λ r. ⌜ r ≡ reportOf (now (input .entry)) ⌝ }
+    ensures { λ r. ⌜ ToldAs (now (input .entry)) r ⌝ }
 {
     if ROOM < input.len() {
         let over = Verdict {

@@ -1,7 +1,7 @@
 -- Demand 3, what a pair of a forwarded file and notes comes from. "Two different sound files never share forwarded file and
 -- notes. Restore accepts a pair exactly when some sound file yields it, and gives back that very file. The forwarded file is
--- sound and yields itself, with no notes." The theorems: `one-sound-file`; `accepts-only` and `gives-back`; `yields-itself`.
--- And the promise of restore leaves one outcome: `one-outcome`.
+-- sound and yields itself, with no notes." The theorems: `one-sound-file`; `yielded-origin` and `origin-yielded`;
+-- `gives-back`; `yields-itself`.
 use Prim.Native.Nat.{ℕ, _+_, _≤_}
 use mathlib.Core.Path.{_≡_, refl, sym, ap, ap₂, subst, _∙_}
 use mathlib.Core.Bool.{Bool, true, false, _&&_, cond}
@@ -72,19 +72,6 @@ module _ (page : ℕ) (transfer cheque : List ℕ) where
         notes-are = ap (notesOf page) (sym (o .forwards)) ∙ forwarded-notes page file;
       }
 
-  -- 0 means that there is room, and that a sound file yields the pair
-  zero-means : (sent notes : List ℕ) (room : ℕ) → restoreOf page sent notes transfer cheque room .number ≡ 0
-      → (length sent ≤ room) × (isYielded page sent notes transfer cheque ≡ true)
-  unfolding restoreOf
-  zero-means sent notes room e = go (ltb room (length sent)) (isYielded page sent notes transfer cheque) refl refl e
-    where
-      go : (short yielded : Bool) → ltb room (length sent) ≡ short → isYielded page sent notes transfer cheque ≡ yielded
-          → cond short (answer 60) (cond yielded (answer 0) (answer 70)) .number ≡ 0
-          → (length sent ≤ room) × (isYielded page sent notes transfer cheque ≡ true)
-      go true yielded p q e = absurd (omega (arith, e))
-      go false true p q e = (ltb-false room (length sent) p, q)
-      go false false p q e = absurd (omega (arith, e))
-
   -- what the promise of restore says of a pair
   module _ (sent notes out out' : List ℕ) (given : Restored) (promise : RestoredAs page sent notes transfer cheque out given out') where
     -- a sound file that yields the pair comes back
@@ -99,24 +86,9 @@ module _ (page : ℕ) (transfer cheque : List ℕ) where
               ∙ ap (λ (s : List ℕ). put 0 s out) (very-file file sent notes o),
         )
 
-    -- answer 0 only where some sound file yields the pair
-    pub accepts-only : Bytes sent → given .number ≡ 0
-        → (file : List ℕ) × SoundOrigin page transfer cheque file sent notes × (length sent ≤ length out) × (out' ≡ put 0 file out)
-    accepts-only h z =
-        let w = zero-means sent notes (length out) (sym (ap (λ (r : Restored). r .number) (promise .answer-is)) ∙ z) in
-        let o = yielded-origin sent notes h (w .1) in
-        (originalOf sent notes, o, w .0, gives-back (originalOf sent notes) o (w .0) .1)
-
     -- a refused call changes no byte
     pub refused-keeps : (given .number ≡ 0 → ⊥) → out' ≡ out
     refused-keeps z = promise .out-is ∙ sym (off-eq _ z refl)
-
-  -- the promise leaves one outcome
-  pub one-outcome : (sent notes out o o' : List ℕ) (a a' : Restored) → RestoredAs page sent notes transfer cheque out a o
-      → RestoredAs page sent notes transfer cheque out a' o' → (a ≡ a') × (o ≡ o')
-  one-outcome sent notes out o o' a a' p q =
-      let same = p .answer-is ∙ sym (q .answer-is) in
-      (same, p .out-is ∙ ap (λ (given : Restored). restoredInto given sent notes out) same ∙ sym (q .out-is))
 
   -- what prepare left comes from the file that it prepared
   module _ (file out notes out' notes' : List ℕ) (given : Prepared) (promise : PreparedAs page file transfer cheque out notes given out' notes')
