@@ -38,16 +38,10 @@ pub record Samples : Type 0 where
   pub one-note : notesOf 0 noted ≡ 316198 ∷ []
   pub noted-prepared : prepareOf 0 noted transfer cheque noted (0 ∷ []) .number ≡ 0
 
-computed : Cases × Samples
+pub cases-hold : Cases × Samples
 unfolding
     from run rep part allOf blank same dec isDate bicShape isListed isTaken lineBlank rule10 rule11 rule12 rule13 rule14 rule15 rule16 rule40 rule41 rule42
     qFault zFault isTransfer isCheque isCountry isTwoCapitals hasBic rule20 rule21 rule22 rule23 rule24 rule25 rule26 rule27 rule28 rule29 rule30 rule31 rule32
     rule33 rule34 rule35 tFault slotAt faultIn structureOf faultOf contentOf euroSum centSum fileNumber verdictOf judgeOf textual textAt notesOf sendOf prepareOf
-computed =
+cases-hold =
     (tt, record { empty-refused = refl; noted-sound = refl; blank-refused = refl; one-note = refl; noted-prepared = refl })
-
-pub cases-hold : Cases
-cases-hold = computed .0
-
-pub samples : Samples
-samples = computed .1

@@ -10,7 +10,11 @@ use Rattle.forwarding.specs.Put.{put}
 use Rattle.prepare.specs.declared.Prepared.{Prepared}
 use Rattle.demands.specs.Sample.{q, first, second, last, two, transfer, cheque}
 use Rattle.demands.specs.ShutOut.{RefusesAll, FindsAllSound, WavesThrough, OnlyCopies}
-use Rattle.demands.proofs.Cases.{noted, samples}
+use Rattle.demands.proofs.Cases.{noted, Samples, cases-hold}
+
+-- what was computed of them
+samples : Samples
+samples = cases-hold .1
 
 number : Verdict → ℕ
 number v = v .number

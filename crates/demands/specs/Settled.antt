@@ -6,13 +6,16 @@ use Prim.Native.Nat.{ℕ}
 use mathlib.Core.Path.{_≡_}
 use mathlib.Core.List.{List}
 use Rattle.judge.specs.Verdict.{JudgedAs}
+use Rattle.judge.specs.declared.Verdict.{Verdict}
 use Rattle.prepare.specs.Prepared.{PreparedAs}
 use Rattle.prepare.specs.declared.Prepared.{Prepared}
 use Rattle.restore.specs.Restored.{RestoredAs}
 use Rattle.restore.specs.declared.Restored.{Restored}
 use Rattle.show.specs.Shown.{ShownAs}
 use Rattle.report.specs.Report.{ToldAs}
+use Rattle.report.specs.declared.Report.{Report}
 use Rattle.host.specs.Answers.{CodedAs, PlacedAs}
+use Rattle.host.specs.declared.Part.{Part}
 
 -- an outcome is permitted, and any two that are permitted coincide
 pub record Settled {A : Type 0} (Permitted : A → Type 0) : Type 0 where
@@ -20,7 +23,7 @@ pub record Settled {A : Type 0} (Permitted : A → Type 0) : Type 0 where
   pub coincide : (a b : A) → Permitted a → Permitted b → a ≡ b
 
 abbrev pub JudgeSettled : Type 0
-JudgeSettled = (file transfer cheque taken : List ℕ) → Settled (JudgedAs file transfer cheque taken)
+JudgeSettled = (file transfer cheque taken : List ℕ) → Settled (λ (o : Verdict). JudgedAs file transfer cheque taken o)
 
 -- an outcome of prepare: the answer, and what is left of the output and of the note places
 abbrev pub PrepareSettled : Type 0
@@ -39,10 +42,10 @@ ShowSettled = (from : ℕ × ℕ) (file : List ℕ) (k f : ℕ) → Settled (λ 
 
 -- the program's numbers, and the two calls of hosts that have a promise of their own
 abbrev pub TellSettled : Type 0
-TellSettled = (input : List ℕ) → Settled (ToldAs input)
+TellSettled = (input : List ℕ) → Settled (λ (o : Report). ToldAs input o)
 
 abbrev pub DeskJudgeSettled : Type 0
-DeskJudgeSettled = (file transfer cheque : List ℕ) → Settled (CodedAs file transfer cheque)
+DeskJudgeSettled = (file transfer cheque : List ℕ) → Settled (λ (o : ℕ). CodedAs file transfer cheque o)
 
 abbrev pub DeskShowSettled : Type 0
-DeskShowSettled = (file : List ℕ) (k f : ℕ) → Settled (PlacedAs file k f)
+DeskShowSettled = (file : List ℕ) (k f : ℕ) → Settled (λ (o : Part). PlacedAs file k f o)
