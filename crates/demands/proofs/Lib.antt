@@ -15,3 +15,4 @@ pub mod Show
 pub mod Settled
 pub mod Program
 pub mod ShutOut
+pub mod Widths

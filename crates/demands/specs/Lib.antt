@@ -9,3 +9,4 @@ pub mod Show
 pub mod Program
 pub mod Settled
 pub mod ShutOut
+pub mod Widths
