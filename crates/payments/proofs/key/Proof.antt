@@ -1,8 +1,8 @@
 use borrow.Author.Needs.{needs}
 use mathlib.Core.Path.{refl}
 use native.Mathlib.Omega.{arith}
+use lib.ListN.{length-take, length-drop}
 use Rattle.records.specs.Places.{part}
-use Rattle.records.specs.Inside.{held}
 use Rattle.payments.proofs.key.Statement.{statement}
 use Rattle.payments.proofs.key.Tie as tie
 
@@ -14,4 +14,4 @@ key-spec =
     (λ c. search needs)
     (λ c. search needs)
     (λ c. search needs)
-    (λ c. held _ _ refl (omega arith) (c .before .pre)))
+    (λ c. record { bytes = refl; long = simp (length-take, length-drop) (omega (arith, c .before .pre)) }))
