@@ -47,7 +47,9 @@ pub fn all_text(page: u32, c: Class, s: &[u8]) -> bool
 {
     let mut i = 0;
     while i < s.len() {
-        if !belongs(c, charset::replaced(page, s[i])) {
+        let was = s[i];
+        let b = charset::replaced(page, was);
+        if !belongs(c, b) {
             return false;
         }
         i += 1;

@@ -3,11 +3,13 @@ pub mod Forwarded
 pub mod Put
 pub mod Parts
 pub mod Between
+pub mod Sized
 pub mod Changes
 pub mod Fields
 pub mod Pieces
 pub mod Noted
 pub mod Numbered
+pub mod Found
 pub mod Sent
 pub mod Merge
 pub mod RoundTrip

@@ -14,7 +14,7 @@ use Rattle.forwarding.specs.Forwarded.{forwarded, notesOf}
 use Rattle.forwarding.specs.Put.{put, put-none}
 use Rattle.forwarding.specs.Changes.{as-it-is}
 use Rattle.forwarding.specs.Noted.{Noted}
-use Rattle.prepare.specs.Sized.{Sized}
+use Rattle.forwarding.specs.Sized.{Sized}
 use Rattle.prepare.specs.Prepared.{notPrepared, done, sendOf, prepareBy, prepareOf, outputAfter, notesAfter, SentAs, PreparedAs}
 use Rattle.prepare.specs.declared.Prepared.{Prepared}
 

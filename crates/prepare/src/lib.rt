@@ -5,12 +5,8 @@ ghost use lib.ListN.{length};
 ghost use Rattle.forwarding.specs.Forwarded.{forwarded, notesOf};
 ghost use Rattle.forwarding.specs.Put.{put};
 ghost use Rattle.forwarding.specs.Noted.{Noted};
-ghost use Rattle.prepare.specs.Sized.{Sized};
+ghost use Rattle.forwarding.specs.Sized.{Sized};
 ghost use Rattle.prepare.specs.Prepared.{notPrepared, SentAs, PreparedAs};
-
-pub mod count;
-mod note;
-mod place;
 
 // Number 0, record 0 and how many notes there are; or the number of a refusal, its record, and 0.
 #[repr(C)]

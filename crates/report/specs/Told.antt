@@ -14,7 +14,7 @@ use Rattle.judge.specs.Verdict.{refused, verdictOf, judgeOf}
 use Rattle.judge.specs.Told.{sound-fits}
 use Rattle.judge.specs.declared.Verdict.{Verdict}
 use Rattle.forwarding.specs.Forwarded.{notesOf}
-use Rattle.prepare.specs.Sized.{Sized}
+use Rattle.forwarding.specs.Sized.{Sized}
 use Rattle.report.specs.Annexes.{annexI, annexII}
 use Rattle.report.specs.Report.{lines, reportOf}
 use Rattle.report.specs.declared.Report.{Report}

@@ -62,5 +62,5 @@ pub fn tell(input: &[u8]) -> Report
     if number != 0 {
         return lines(found, 0);
     }
-    lines(found, prepare::count::file(input))
+    lines(found, count::file(input))
 }

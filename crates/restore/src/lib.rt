@@ -108,7 +108,7 @@ fn is_yielded(page: u32, forwarded: &[u8], notes: &[u32], transfer: &[u8], chequ
     if number != 0 {
         return false;
     }
-    if prepare::count::file(forwarded) != 0 {
+    if count::file(forwarded) != 0 {
         return false;
     }
     notes_fit(page, forwarded, notes)

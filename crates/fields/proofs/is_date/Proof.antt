@@ -22,4 +22,6 @@ is-date-spec =
     (λ c κs. search needs)
     (λ c κs. search needs)
     (λ c κs. search needs)
-    (λ c. cc))
+    (λ c.
+    let parts = c .before .before in
+    rw (c .days .ensures, c .before .all .ensures, parts .value3 .ensures, parts .before .before .value2 .ensures, parts .before .before .before .before .value .ensures)))

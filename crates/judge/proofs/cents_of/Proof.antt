@@ -1,5 +1,10 @@
 use borrow.Author.Needs.{needs}
+use Prim.Native.Nat.{ℕ}
+use mathlib.Core.Path.{ap, _∙_}
+use mathlib.Core.List.{List}
+use lib.ListN.{take, drop}
 use Rattle.records.specs.Places.{part}
+use Rattle.fields.specs.Number.{dec}
 use Rattle.judge.proofs.cents_of.Statement.{statement}
 use Rattle.judge.proofs.cents_of.Tie as tie
 
@@ -13,4 +18,4 @@ cents-of-spec =
     (λ c. search needs)
     (λ c. search needs)
     (λ c κs. search needs)
-    (λ c. cc))
+    (λ c. c .value .ensures ∙ ap (λ (l : List ℕ). dec (take 2 (drop 0 l))) (c .before .before .field .ensures .bytes)))

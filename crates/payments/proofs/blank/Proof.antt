@@ -1,4 +1,6 @@
 use borrow.Author.Needs.{needs}
+use mathlib.Core.Path.{ap, _∙_}
+use Rattle.fields.specs.Class.{blank}
 use Rattle.payments.proofs.blank.Statement.{statement}
 use Rattle.payments.proofs.blank.Tie as tie
 
@@ -8,4 +10,4 @@ blank-spec =
     (tie.spec
     (λ c κs. search needs)
     (λ c κs. search needs)
-    (λ c. cc))
+    (λ c. c .blank .ensures ∙ ap (blank _) (c .before .field .ensures .bytes)))

@@ -1,4 +1,6 @@
 use borrow.Author.Needs.{needs}
+use mathlib.Core.Path.{ap, _∙_}
+use Rattle.fields.specs.Bic.{bicShape}
 use Rattle.payments.specs.Rules.{hasBic}
 use Rattle.payments.proofs.has_bic.Statement.{statement}
 use Rattle.payments.proofs.has_bic.Tie as tie
@@ -10,4 +12,4 @@ has-bic-spec =
     (tie.spec
     (λ c κs. search needs)
     (λ c κs. search needs)
-    (λ c. cc))
+    (λ c. c .bic-shaped .ensures ∙ ap (bicShape _) (c .before .field .ensures .bytes)))

@@ -1,4 +1,6 @@
 use borrow.Author.Needs.{needs}
+use mathlib.Core.Path.{ap₂}
+use mathlib.Core.Bool.{_||_}
 use Rattle.payments.specs.Rules.{isCheque}
 use Rattle.payments.proofs.is_cheque.Statement.{statement}
 use Rattle.payments.proofs.is_cheque.Tie as tie
@@ -12,4 +14,4 @@ is-cheque-spec =
     (λ c κs. search needs)
     (λ c. search needs)
     (λ c κs. search needs)
-    (λ c. cc))
+    (λ c. ap₂ _||_ (c .before .before .is .ensures) (c .is2 .ensures)))

@@ -10,4 +10,4 @@ is-transfer-spec =
     (tie.spec
     (λ c. search needs)
     (λ c κs. search needs)
-    (λ c. cc))
+    (λ c. c .is .ensures))

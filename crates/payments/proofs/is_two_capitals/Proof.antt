@@ -1,4 +1,6 @@
 use borrow.Author.Needs.{needs}
+use mathlib.Core.Path.{ap₂}
+use mathlib.Core.Bool.{_&&_}
 use Rattle.records.specs.Places.{part}
 use Rattle.payments.specs.Rules.{isTwoCapitals}
 use Rattle.payments.proofs.is_two_capitals.Statement.{statement}
@@ -17,4 +19,4 @@ is-two-capitals-spec =
     (λ c. search needs)
     (λ c. search needs)
     (λ c κs. search needs)
-    (λ c. cc))
+    (λ c. ap₂ _&&_ (c .before .before .all .ensures) (c .all2 .ensures)))

@@ -1,4 +1,6 @@
 use borrow.Author.Needs.{needs}
+use mathlib.Core.Path.{refl}
+use Rattle.laws.specs.Choice.{same-choice}
 use Rattle.records.specs.Places.{part}
 use Rattle.payments.specs.Rules.{rule21}
 use Rattle.payments.proofs.rule21.Statement.{statement}
@@ -19,4 +21,6 @@ rule21-spec =
     (λ c κs. search needs)
     (λ c κs. search needs)
     (λ c κs. search needs)
-    (λ c. cc))
+    (λ c.
+    same-choice _ (c .at2 .ensures) (c .before .before .before .before .is .ensures)
+    (same-choice _ (c .before .at .ensures) (c .before .before .is2 .ensures) refl)))

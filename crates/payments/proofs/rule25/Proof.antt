@@ -1,5 +1,6 @@
 use borrow.Author.Needs.{needs}
-use Rattle.laws.specs.Choice.{picks, on-not}
+use mathlib.Core.Path.{refl}
+use Rattle.laws.specs.Choice.{picks, on-not, same-choice}
 use Rattle.payments.specs.Rules.{rule25}
 use Rattle.payments.proofs.rule25.Statement.{statement}
 use Rattle.payments.proofs.rule25.Tie as tie
@@ -17,4 +18,9 @@ rule25-spec =
     (λ c κs. search needs)
     (λ c κs. search needs)
     (λ c κs. search needs)
-    (λ c. on-not _ (c .before .before .before .before .before .before .before .is-cheque .ensures) (c .before .before .before .before .before .before .if1 .left) (cc)))
+    (λ c.
+    let tests = c .before .before .before in
+    on-not _ (tests .before .before .before .before .is-cheque .ensures) (tests .before .before .before .if1 .left)
+    (same-choice _ (c .at3 .ensures) (tests .before .before .blank .ensures)
+    (same-choice _ (c .before .at2 .ensures) (tests .before .all .ensures)
+    (same-choice _ (c .before .before .at .ensures) (tests .blank2 .ensures) refl)))))

@@ -1,6 +1,7 @@
 use borrow.Author.Needs.{needs}
-use Rattle.laws.specs.Choice.{picks, on-call, off-call}
-use Rattle.payments.specs.Rules.{rule28}
+use mathlib.Core.Path.{refl, ap, _∙_}
+use Rattle.laws.specs.Choice.{picks, on-call, off-call, same-choice}
+use Rattle.payments.specs.Rules.{isCountry, rule28}
 use Rattle.payments.proofs.rule28.Statement.{statement}
 use Rattle.payments.proofs.rule28.Tie as tie
 
@@ -13,9 +14,14 @@ rule28-spec =
     (λ c κs. search needs)
     (λ c κs. search needs)
     (λ c κs. search needs)
-    (λ c. on-call _ (c .before .before .before .is-transfer .ensures) (c .before .before .if1 .taken) (cc))
+    (λ c.
+    on-call _ (c .before .before .before .is-transfer .ensures) (c .before .before .if1 .taken)
+    (same-choice _ (c .at .ensures) (c .before .is-country .ensures ∙ ap (isCountry _) (c .before .before .before .before .field .ensures .bytes)) refl))
     (λ c κs. search needs)
     (λ c κs. search needs)
     (λ c κs. search needs)
-    (λ c. off-call _ (c .before .before .before .before .before .is-transfer .ensures) (c .before .before .before .before .if1 .left) (on-call _ (c .before .before .before .is-cheque .ensures) (c .before .before .if2 .taken) (cc)))
+    (λ c.
+    off-call _ (c .before .before .before .before .before .is-transfer .ensures) (c .before .before .before .before .if1 .left)
+    (on-call _ (c .before .before .before .is-cheque .ensures) (c .before .before .if2 .taken)
+    (same-choice _ (c .at2 .ensures) (c .before .is-country2 .ensures ∙ ap (isCountry _) (c .before .before .before .before .before .before .field .ensures .bytes)) refl)))
     (λ c. search picks))

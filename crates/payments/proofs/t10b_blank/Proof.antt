@@ -1,4 +1,7 @@
 use borrow.Author.Needs.{needs}
+use mathlib.Core.Path.{ap, _∙_}
+use Rattle.records.specs.declared.Span.{Span}
+use Rattle.rules.specs.Wrong.{lineBlank}
 use Rattle.payments.proofs.t10b_blank.Statement.{statement}
 use Rattle.payments.proofs.t10b_blank.Tie as tie
 
@@ -8,4 +11,6 @@ t10b-blank-spec =
     (tie.spec
     (λ c κs. search needs)
     (λ c κs. rw (c .place .ensures) (search needs))
-    (λ c. cc))
+    (λ c.
+    let a = c .before .before .before .args in
+    c .line-blank .ensures ∙ ap (λ (s : Span). lineBlank (a .page) (a .rec .now) s (a .k)) (c .before .place .ensures)))

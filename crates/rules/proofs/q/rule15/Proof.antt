@@ -1,4 +1,6 @@
 use borrow.Author.Needs.{needs}
+use mathlib.Core.Path.{refl}
+use Rattle.laws.specs.Choice.{same-choice}
 use Rattle.rules.specs.Q.{rule15}
 use Rattle.rules.proofs.q.rule15.Statement.{statement}
 use Rattle.rules.proofs.q.rule15.Tie as tie
@@ -11,4 +13,4 @@ rule15-spec =
     (λ c. search needs)
     (λ c κs. search needs)
     (λ c κs. search needs)
-    (λ c. cc))
+    (λ c. same-choice _ (c .at .ensures) (c .before .is .ensures) refl))
