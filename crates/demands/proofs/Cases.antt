@@ -1,28 +1,30 @@
 -- The twelve (P) cases hold, by computing the table; and what is found of the samples that shut a program out.
 use Prim.Native.Nat.{ℕ}
 use mathlib.Core.Path.{_≡_, refl}
+use mathlib.Core.Bool.{Bool, true}
 use mathlib.Core.List.{List, [], _∷_}
+use lib.Dec.{eqb, ltb}
 use Rattle.laws.specs.Scan.{from, run}
 use Rattle.charset.specs.Table.{rep}
 use Rattle.records.specs.Places.{part}
-use Rattle.fields.specs.Class.{allOf, blank, same}
+use Rattle.fields.specs.Class.{every, allOf, blank, same}
 use Rattle.fields.specs.Number.{dec, isDate}
 use Rattle.fields.specs.Bic.{bicShape}
 use Rattle.fields.specs.Lists.{isListed, isTaken}
 use Rattle.rules.specs.Wrong.{lineBlank}
 use Rattle.rules.specs.Q.{rule10, rule11, rule12, rule13, rule14, rule15, rule16}
 use Rattle.rules.specs.Z.{rule40, rule41, rule42}
-use Rattle.rules.specs.Faults.{qFault, zFault}
-use Rattle.payments.specs.Rules.{isTransfer, isCheque, isCountry, isTwoCapitals, hasBic, rule20, rule21, rule22, rule23, rule24, rule25, rule26, rule27, rule28, rule29, rule30, rule31, rule32, rule33, rule34, rule35}
-use Rattle.payments.specs.Faults.{tFault}
+use Rattle.rules.specs.Faults.{qRules, zRules, qFault, zFault}
+use Rattle.payments.specs.Rules.{isTransfer, isCheque, isCountry, isTwoCapitals, hasBic, rule20, rule21, rule22, rule23, rule24, rule25, rule26, rule27, rule28, rule29, rule30, rule31, rule32, rule33, rule34, rule35, keyOf}
+use Rattle.payments.specs.Faults.{tRules, tFault}
 use Rattle.structure.specs.Slots.{slotAt}
 use Rattle.structure.specs.Walk.{faultIn, structureOf}
+use Rattle.structure.specs.declared.Shape.the-variants.{Fits}
 use Rattle.judge.specs.Content.{faultOf, contentOf}
 use Rattle.judge.specs.Sums.{euroSum, centSum, fileNumber}
 use Rattle.judge.specs.Verdict.{verdictOf, judgeOf}
 use Rattle.forwarding.specs.Text.{textual, textAt}
 use Rattle.forwarding.specs.Forwarded.{notesOf}
-use Rattle.prepare.specs.Prepared.{sendOf, prepareOf}
 use Rattle.demands.specs.Sample.{two, transfer, cheque}
 use Rattle.demands.specs.Cases.{Cases}
 
@@ -30,18 +32,42 @@ use Rattle.demands.specs.Cases.{Cases}
 abbrev pub noted : List ℕ
 noted = two "M&M STUDIO" "000000000000199"
 
--- what is found of the empty file, of that one, and of one whose second payee is blank after replacement
+-- one whose second payee is blank after replacement
+abbrev pub blanked : List ℕ
+blanked = two "=" "000000000000199"
+
+-- each row of a record's rules says that its rule holds
+abbrev pub quiet : List (ℕ × ℕ) → Bool
+quiet rows = every (λ (row : ℕ × ℕ). eqb (row .1) 0) rows
+
+-- what is found of the empty file, of that one and of this
 pub record Samples : Type 0 where
-  pub empty-refused : judgeOf [] transfer cheque [] .number ≡ 2
-  pub noted-sound : judgeOf noted transfer cheque [] .number ≡ 0
-  pub blank-refused : judgeOf (two "=" "000000000000199") transfer cheque [] .number ≡ 29
+  pub empty-refused : verdictOf 0 [] transfer cheque .number ≡ 2
+  pub noted-sound : verdictOf 0 noted transfer cheque .number ≡ 0
+  pub noted-bytes : every (λ (b : ℕ). ltb b 256) noted ≡ true
   pub one-note : notesOf 0 noted ≡ 316198 ∷ []
-  pub noted-prepared : prepareOf 0 noted transfer cheque noted (0 ∷ []) .number ≡ 0
+  pub blanked-fits : structureOf blanked ≡ Fits 2
+  pub blanked-refused : verdictOf 0 blanked transfer cheque .number ≡ 29
+  pub q-quiet : quiet (qRules 0 (slotAt blanked 0)) ≡ true
+  pub t-quiet : quiet (tRules 0 transfer cheque (keyOf (slotAt blanked 1)) (slotAt blanked 1)) ≡ true
+  pub z-quiet : quiet (zRules 2 (euroSum blanked 2) (slotAt blanked 3)) ≡ true
 
 pub cases-hold : Cases × Samples
 unfolding
     from run rep part allOf blank same dec isDate bicShape isListed isTaken lineBlank rule10 rule11 rule12 rule13 rule14 rule15 rule16 rule40 rule41 rule42
     qFault zFault isTransfer isCheque isCountry isTwoCapitals hasBic rule20 rule21 rule22 rule23 rule24 rule25 rule26 rule27 rule28 rule29 rule30 rule31 rule32
-    rule33 rule34 rule35 tFault slotAt faultIn structureOf faultOf contentOf euroSum centSum fileNumber verdictOf judgeOf textual textAt notesOf sendOf prepareOf
-cases-hold =
-    (tt, record { empty-refused = refl; noted-sound = refl; blank-refused = refl; one-note = refl; noted-prepared = refl })
+    rule33 rule34 rule35 tFault slotAt faultIn structureOf faultOf contentOf euroSum centSum fileNumber verdictOf judgeOf textual textAt notesOf
+cases-hold = (
+  tt,
+  record {
+    empty-refused = refl;
+    noted-sound = refl;
+    noted-bytes = refl;
+    one-note = refl;
+    blanked-fits = refl;
+    blanked-refused = refl;
+    q-quiet = refl;
+    t-quiet = refl;
+    z-quiet = refl;
+  },
+)

@@ -26,7 +26,7 @@ use Rattle.demands.proofs.Turns.{walk-range}
 use Rattle.demands.proofs.Demand2.{content-rule, judged}
 
 module _ (file transfer cheque : List ℕ) where
-  broken-rule : (m j i : ℕ) → Broken 0 transfer cheque file m j i → FileRule m
+  pub broken-rule : (m j i : ℕ) → Broken 0 transfer cheque file m j i → FileRule m
   broken-rule m j i (inl t) = inl (omega (arith, t .rule), omega (arith, t .rule))
   broken-rule m j i (inr (inl u)) = let r = walk-range j (slotAt file j) i m (u .broken) in inl (omega (arith, r .0), r .1)
   broken-rule m j i (inr (inr w)) = inr (content-rule 0 transfer cheque file m j i w)

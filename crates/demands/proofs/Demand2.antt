@@ -86,11 +86,16 @@ module _ (page : ℕ) (transfer cheque file : List ℕ) where
     unfolding F
     wrong-f m j i w e = w .broken (says-is file n fit page transfer cheque m j (due-in m j i w) ∙ e)
 
-    -- only a wrong record can be told of a file that fits
-    by-wrong : (m j i : ℕ) → (Wrong page transfer cheque file m j i → ⊥) → Broken page transfer cheque file m j i → ⊥
-    by-wrong m j i f (inl t) = no-long m j i short t
-    by-wrong m j i f (inr (inl u)) = no-unfit file n fit m j i u
-    by-wrong m j i f (inr (inr w)) = f w
+    -- what is broken in a file that fits is a rule of one of its records
+    is-wrong : (m j i : ℕ) → Broken page transfer cheque file m j i → Wrong page transfer cheque file m j i
+    is-wrong m j i (inl t) = absurd (no-long m j i short t)
+    is-wrong m j i (inr (inl u)) = absurd (no-unfit file n fit m j i u)
+    is-wrong m j i (inr (inr w)) = w
+
+    pub broken-in : (m j i : ℕ) → Broken page transfer cheque file m j i
+        → (j ≤ n + 1) × (faultOf page file n (euroSum file n) transfer cheque j m ≡ 0 → ⊥)
+    unfolding F
+    broken-in m j i b = let w = is-wrong m j i b in (due-in m j i w, wrong-f m j i w)
 
     answer : Breach
     answer = firstBroken F (ruleFrom n) (ruleEnd n) (n + 2)
@@ -140,14 +145,14 @@ module _ (page : ℕ) (transfer cheque file : List ℕ) where
 
         go : (t : Bool) → eqb (answer .number) 0 ≡ t → Answered page transfer cheque file (v t .number) (v t .rec)
         go true e =
-            let none : Sound page transfer cheque file = λ m j i. by-wrong m j i (none-wrong (eqb-true (answer .number) 0 e) m j i) in
+            let none : Sound page transfer cheque file = λ m j i b. none-wrong (eqb-true (answer .number) 0 e) m j i (is-wrong m j i b) in
             record { sound = (λ z. none, λ f. refl); first = λ ne. absurd (ne refl) }
         go false e =
             let ne = eqb-false (answer .number) 0 e in
             let here : Broken page transfer cheque file (answer .number) (answer .rec) (answer .number) = inr (inr (there ne)) in
             record {
               sound = (λ z. absurd (ne z), λ none. absurd (none (answer .number) (answer .rec) (answer .number) here));
-              first = λ f. record { turn = answer .number; there = here; none-before = λ m j i b. by-wrong m j i (none-before ne m j i b) };
+              first = λ f. record { turn = answer .number; there = here; none-before = λ m j i b x. none-before ne m j i b (is-wrong m j i x) };
             }
 
   -- a file that is too long

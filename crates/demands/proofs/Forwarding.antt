@@ -16,7 +16,7 @@ use Rattle.forwarding.specs.Forwarded.{differs, forwarded, notesOf}
 use Rattle.forwarding.specs.Put.{put}
 use Rattle.forwarding.specs.RoundTrip.{Bytes, forwarded-length}
 use Rattle.restore.specs.Origin.{success, prepared-origin}
-use Rattle.demands.specs.Forwarding.{Replaced, Changed, Listed, Forwards}
+use Rattle.demands.specs.Forwarding.{Replaced, Changed, Listed, ForwardedIsOne, NotesAreOne, Forwards}
 use Rattle.demands.proofs.Alone.{same-rising}
 use Rattle.demands.proofs.Notes.{fwd-at, only-changed, every-changed, rising}
 use Rattle.demands.proofs.Demand2.{judged}
@@ -25,10 +25,10 @@ module _ (page : ℕ) (file : List ℕ) where
   differs-to : (i : ℕ) → i < length file → differs (rep page) (textAt (length file)) i (getD file i 0) ≡ true → Changed page file i
   differs-to i h e =
       let w = both (textAt (length file) i) (not (eqb (rep page (getD file i 0)) (getD file i 0))) e in
-      record { below = h; text = w .0; other = eqb-false _ _ (not-true _ (w .1)) }
+      record { below = h; in-text = w .0; other = eqb-false _ _ (not-true _ (w .1)) }
 
   to-differs : (i : ℕ) → Changed page file i → differs (rep page) (textAt (length file)) i (getD file i 0) ≡ true
-  to-differs i c = rw (c .text, ne-eqb _ _ (c .other))
+  to-differs i c = rw (c .in-text, ne-eqb _ _ (c .other))
 
   sent-at : (i : ℕ) → i < length file
       → getD (forwarded page file) i 0 ≡ cond (textAt (length file) i) (rep page (getD file i 0)) (getD file i 0)
@@ -42,7 +42,7 @@ module _ (page : ℕ) (file : List ℕ) where
   by-kind i h e = sent-at i h ∙ ap (λ (t : Bool). cond t (rep page (getD file i 0)) (getD file i 0)) e
 
   pub replaced : Replaced page file (forwarded page file)
-  replaced = record { long = forwarded-length page file; text = λ i h e. by-kind i h e; rest = λ i h e. by-kind i h e }
+  replaced = record { long = forwarded-length page file; in-text = λ i h e. by-kind i h e; elsewhere = λ i h e. by-kind i h e }
 
   -- and no other list is so
   pub replaced-one : (a b : List ℕ) → Replaced page file a → Replaced page file b → a ≡ b
@@ -52,8 +52,8 @@ module _ (page : ℕ) (file : List ℕ) where
       at i h = go (textAt (length file) i) refl
         where
           go : (t : Bool) → textAt (length file) i ≡ t → getD a i 0 ≡ getD b i 0
-          go true e = p .text i h e ∙ sym (q .text i h e)
-          go false e = p .rest i h e ∙ sym (q .rest i h e)
+          go true e = p .in-text i h e ∙ sym (q .in-text i h e)
+          go false e = p .elsewhere i h e ∙ sym (q .elsewhere i h e)
 
   every : (i : ℕ) → Changed page file i → (k : ℕ) × (k < length (notesOf page file)) × (getD (notesOf page file) k 0 ≡ i * 256 + getD file i 0)
   unfolding notesOf
@@ -84,6 +84,12 @@ module _ (page : ℕ) (file : List ℕ) where
           let o = p .only k h in
           let w = q .every (o .0) (o .1) in
           (w .0, w .1, w .2 ∙ sym (o .2))
+
+pub forwarded-is-one : ForwardedIsOne
+forwarded-is-one page file = record { some = (forwarded page file, replaced page file); coincide = replaced-one page file }
+
+pub notes-are-one : NotesAreOne
+notes-are-one page file bytes = record { some = (notesOf page file, listed page file bytes); coincide = listed-one page file }
 
 -- behind what was put in front, all is as it was
 behind : (xs ys : List ℕ) (n : ℕ) → length xs ≡ n → drop n (put 0 xs ys) ≡ drop n ys

@@ -11,6 +11,7 @@ pub mod Notes
 pub mod Forwarding
 pub mod Prepare
 pub mod Demand3
+pub mod There
 pub mod Show
 pub mod Settled
 pub mod Program

@@ -21,7 +21,8 @@ use Rattle.structure.specs.declared.Shape.the-variants.{Fits, Refused}
 use Rattle.forwarding.specs.Numbered.{text-wide}
 use Rattle.show.specs.Shown.{moved, shownBy, shownAt, ShownAs, shown-inside, in-q, in-t}
 use Rattle.host.specs.declared.Part.{Part}
-use Rattle.demands.specs.Show.{There, fieldAt, EmptyExactly, ShowsTheField, DeskShowsThePlace}
+use Rattle.demands.specs.Show.{fieldAt, EmptyExactly, ShowsTheField, DeskShowsThePlace}
+use Rattle.demands.proofs.There.{ThereIn, there-in, in-there}
 
 -- a T record has no text field of another number
 module _ (f : ℕ) (out : 2 ≤ f → f ≤ 9 → ⊥) where
@@ -38,7 +39,7 @@ module _ (f : ℕ) (out : 2 ≤ f → f ≤ 9 → ⊥) where
 
 module _ (file : List ℕ) (k f : ℕ) where
   -- where the field is not there, its place is nowhere
-  no-place : (There file k f → ⊥) → nowhere ≡ shownAt file k f
+  no-place : (ThereIn file k f → ⊥) → nowhere ≡ shownAt file k f
   unfolding shownAt
   no-place none = go (structureOf file) refl
     where
@@ -78,7 +79,7 @@ pub record Stands (file : List ℕ) (k f : ℕ) : Type 0 where
   pub wide : fieldAt k f .start < fieldAt k f .end
   pub inside : Inside (widthAt k) (fieldAt k f)
 
-stands : (file : List ℕ) (k f : ℕ) → There file k f → Stands file k f
+stands : (file : List ℕ) (k f : ℕ) → ThereIn file k f → Stands file k f
 stands file k f (n, e, inl (z, one)) =
     subst₂ (Stands file) (sym z) (sym one)
     (record { place = sym (in-q file 0 1 n e refl refl); wide = lit< tt; inside = q-text-inside 1 })
@@ -99,9 +100,9 @@ stands file k f (n, e, inr (some, in-file, low, high)) =
 pub empty-exactly : EmptyExactly
 empty-exactly from at file bytes k f shown = (
   λ e there.
-      let s = stands file k f there in
+      let s = stands file k f (there-in file k f there) in
       omega (arith, s .wide, ap (λ (p : Span). p .end - p .start) (s .place), long file k f from at bytes shown, ap length e),
-  λ none. empty bytes (long file k f from at bytes shown ∙ ap (λ (s : Span). s .end - s .start) (sym (no-place file k f none))),
+  λ none. empty bytes (long file k f from at bytes shown ∙ ap (λ (s : Span). s .end - s .start) (sym (no-place file k f (λ there. none (in-there file k f there))))),
 )
 
 pub desk-shows-the-place : DeskShowsThePlace
@@ -146,7 +147,7 @@ module _ (file : List ℕ) (r w a m : ℕ) (h : a + m ≤ w) where
 pub shows-the-field : ShowsTheField
 unfolding part slotAt
 shows-the-field from at file bytes k f there shown =
-    let w = stands file k f there in
+    let w = stands file k f (there-in file k f there) in
     let s = fieldAt k f in
     let r = recordAt k in
     let width : r + s .end - (r + s .start) ≡ s .end - s .start = omega arith in (

@@ -1,49 +1,135 @@
--- Each of the four programs breaks its promise at one of the samples.
-use Prim.Native.Nat.{ℕ}
-use mathlib.Core.Path.{_≡_, refl, sym, ap, _∙_}
+-- Each of the four programs fails at one of the samples.
+use Prim.Native.Nat.{ℕ, zero, suc, _+_, _≤_, _<_}
+use mathlib.Core.Path.{_≡_, refl, sym, ap, ap₂, _∙_}
+use mathlib.Core.Bool.{Bool, true, false}
 use mathlib.Core.List.{List, [], _∷_}
+use mathlib.Core.Logic.{inl, inr}
+use native.Mathlib.Nat.{le-refl}
 use native.Mathlib.Omega.{arith}
-use lib.ListN.{getD}
-use Rattle.laws.specs.Choice.{on-eq}
+use borrow.Author.Tests.{eqb-true, eqb-false, leb-true, leb-false, ltb-true}
+use lib.Dec.{eqb, leb, ltb, lit<}
+use lib.ListN.{length, getD, take}
+use Rattle.laws.specs.Choice.{both, either}
+use Rattle.fields.specs.Class.{every}
+use Rattle.fields.specs.Lists.{isTaken}
+use Rattle.rules.specs.Faults.{byNumber, qRules, zRules, qFault, zFault}
+use Rattle.payments.specs.Rules.{keyOf}
+use Rattle.payments.specs.Faults.{tRules, tFault}
+use Rattle.structure.specs.Slots.{slotAt}
+use Rattle.structure.specs.Fits.{Fit, fits}
+use Rattle.judge.specs.Sums.{euroSum}
+use Rattle.judge.specs.Content.{faultOf}
+use Rattle.judge.specs.ByKind.{of-q, of-t, of-z}
+use Rattle.judge.specs.Verdict.{verdictOf}
 use Rattle.judge.specs.declared.Verdict.{Verdict}
-use Rattle.forwarding.specs.Put.{put}
-use Rattle.prepare.specs.declared.Prepared.{Prepared}
-use Rattle.demands.specs.Sample.{q, first, second, last, two, transfer, cheque}
-use Rattle.demands.specs.ShutOut.{RefusesAll, FindsAllSound, WavesThrough, OnlyCopies}
-use Rattle.demands.proofs.Cases.{noted, Samples, cases-hold}
+use Rattle.forwarding.specs.Forwarded.{notesOf}
+use Rattle.forwarding.specs.RoundTrip.{Bytes}
+use Rattle.demands.specs.Sample.{transfer, cheque}
+use Rattle.demands.specs.Demand1.{FileRule}
+use Rattle.demands.specs.Demand2.{Sound, Judges}
+use Rattle.demands.specs.ShutOut.{BrokenLater, RefusesAll, FindsAllSound, WavesThrough, OnlyCopies}
+use Rattle.demands.proofs.Cases.{noted, blanked, quiet, Samples, cases-hold}
+use Rattle.demands.proofs.Ranges.{t-range}
+use Rattle.demands.proofs.Demand1.{broken-rule}
+use Rattle.demands.proofs.Demand2.{judged, broken-in}
+use Rattle.demands.proofs.Forwarding.{listed, listed-one}
 
 -- what was computed of them
 samples : Samples
 samples = cases-hold .1
 
-number : Verdict → ℕ
-number v = v .number
+sound-noted : Sound 0 transfer cheque noted
+sound-noted = judged 0 transfer cheque noted .sound .0 (samples .noted-sound)
 
 pub refuses-all : RefusesAll
-unfolding number
-refuses-all judge never promise = never noted transfer cheque [] (ap number (promise noted transfer cheque []) ∙ samples .noted-sound)
+unfolding isTaken
+refuses-all judge never promise = never noted transfer cheque [] (promise noted transfer cheque [] .free sound-noted refl .0)
+
+-- no rule has number 0, so an unsound file is not told 0
+rule-real : (n : ℕ) → FileRule n → 1 ≤ n
+rule-real n (inl r) = r .0
+rule-real n (inr (inl r)) = omega (arith, r .0)
+rule-real n (inr (inr (inl r))) = omega (arith, r .0)
+rule-real n (inr (inr (inr r))) = omega (arith, r .0)
+
+not-told-0 : (file : List ℕ) (number : ℕ) (answer : Verdict) → verdictOf 0 file transfer cheque .number ≡ number → 0 < number
+    → Judges transfer cheque [] file answer → answer .number ≡ 0 → ⊥
+not-told-0 file number answer e some promise z =
+    let unsound : Sound 0 transfer cheque file → ⊥ = λ s. omega (arith, e, judged 0 transfer cheque file .sound .1 s, some) in
+    let first = promise .unsound unsound .0 in
+    omega (arith, z, rule-real (answer .number) (broken-rule file transfer cheque (answer .number) (answer .rec) (first .turn) (first .there)))
 
 pub finds-all-sound : FindsAllSound
-unfolding number
 finds-all-sound judge always promise =
-    omega (arith, always [] transfer cheque [], ap number (promise [] transfer cheque []) ∙ samples .empty-refused)
+    not-told-0 [] 2 (judge [] transfer cheque []) (samples .empty-refused) (lit< tt) (promise [] transfer cheque []) (always [] transfer cheque [])
+
+-- rules of which each row says that it holds say 0
+quiet-zero : (rows : List (ℕ × ℕ)) → quiet rows ≡ true → (rule : ℕ) → byNumber rows rule ≡ 0
+quiet-zero [] e rule = refl
+quiet-zero (row ∷ rows) e rule =
+    let w = both (eqb (row .1) 0) (quiet rows) e in
+    either (λ (n : ℕ). n ≡ 0) (eqb rule (row .0)) (row .1) (byNumber rows rule) (eqb-true (row .1) 0 (w .0)) (quiet-zero rows (w .1) rule)
+
+q-holds : (rule : ℕ) → 0 ≡ qFault 0 (slotAt blanked 0) rule
+unfolding qFault
+q-holds rule = sym (quiet-zero (qRules 0 (slotAt blanked 0)) (samples .q-quiet) rule)
+
+t-holds : (rule : ℕ) → 0 ≡ tFault 0 transfer cheque (keyOf (slotAt blanked 1)) (slotAt blanked 1) rule
+unfolding tFault
+t-holds rule = sym (quiet-zero (tRules 0 transfer cheque (keyOf (slotAt blanked 1)) (slotAt blanked 1)) (samples .t-quiet) rule)
+
+z-holds : (rule : ℕ) → 0 ≡ zFault 2 (euroSum blanked 2) (slotAt blanked 3) rule
+unfolding zFault
+z-holds rule = sym (quiet-zero (zRules 2 (euroSum blanked 2) (slotAt blanked 3)) (samples .z-quiet) rule)
+
+-- only record 2 breaks a rule, and that a T rule
+later : BrokenLater transfer cheque blanked
+later m j i b = go (eqb j 0) (eqb j 1) (leb j 2) refl refl refl (broken-in 0 transfer cheque blanked 2 (omega (arith, fit .long)) fit m j i b)
+  where
+    fit : Fit blanked 2
+    fit = fits blanked 2 (samples .blanked-fits)
+
+    go : (first second third : Bool) → eqb j 0 ≡ first → eqb j 1 ≡ second → leb j 2 ≡ third
+        → (j ≤ 2 + 1) × (faultOf 0 blanked 2 (euroSum blanked 2) transfer cheque j m ≡ 0 → ⊥) → (20 ≤ m) × (m ≤ 35) × (2 ≤ j)
+    go true second third p q r w =
+        absurd (w .1 (sym (of-q 0 blanked 2 (euroSum blanked 2) transfer cheque j m 0 (eqb-true j 0 p) refl (q-holds m))))
+    go false true third p q r w =
+        let at = eqb-true j 1 q in
+        absurd
+        (w .1
+        (sym
+        (of-t 0 blanked 2 (euroSum blanked 2) transfer cheque j m 0 (eqb-false j 0 p) (omega (arith, at)) refl refl (sym (ap (slotAt blanked) at)) (t-holds m))))
+    go false false true p q r w =
+        let range =
+        t-range 0 transfer cheque (keyOf (slotAt blanked 1)) (slotAt blanked j) m
+        (λ z. w .1 (sym (of-t 0 blanked 2 (euroSum blanked 2) transfer cheque j m 0 (eqb-false j 0 p) (leb-true j 2 r) refl refl refl (sym z)))) in
+        (range .0, omega (arith, range .1), omega (arith, eqb-false j 0 p, eqb-false j 1 q))
+    go false false false p q r w =
+        let at : j ≡ 3 = omega (arith, w .0, leb-false j 2 r) in
+        absurd
+        (w .1
+        (sym
+        (of-z 0 blanked 2 (euroSum blanked 2) transfer cheque j m 0 (eqb-false j 0 p) (leb-false j 2 r) (sym (ap (slotAt blanked) at)) (z-holds m))))
 
 pub waves-through : WavesThrough
-unfolding number
-waves-through judge alike promise =
-    let blank = two "=" "000000000000199" in
-    omega (
-      arith,
-      ap number (alike q first (second "M&M STUDIO" ∷ []) (second "=" ∷ []) (last "000000000000199") transfer cheque [] refl),
-      ap number (promise noted transfer cheque []) ∙ samples .noted-sound,
-      ap number (promise blank transfer cheque []) ∙ samples .blank-refused,
-    )
+waves-through judge passes promise =
+    not-told-0 blanked 29 (judge blanked transfer cheque []) (samples .blanked-refused) (lit< tt) (promise blanked transfer cheque [])
+    (passes blanked transfer cheque later)
+
+bytes-of : (file : List ℕ) → every (λ (b : ℕ). ltb b 256) file ≡ true → Bytes file
+bytes-of [] e k = lit< tt
+bytes-of (b ∷ file) e zero = ltb-true b 256 (both (ltb b 256) (every (λ (b : ℕ). ltb b 256) file) e .0)
+bytes-of (b ∷ file) e (suc k) = bytes-of file (both (ltb b 256) (every (λ (b : ℕ). ltb b 256) file) e .1) k
 
 pub only-copies : OnlyCopies
 only-copies prepare copies promise =
-    let p = promise noted transfer cheque noted (0 ∷ []) in
-    let z = ap (λ (r : Prepared). r .number) (p .answer-is) ∙ samples .noted-prepared in
+    let bytes = bytes-of noted (samples .noted-bytes) in
+    let changes = listed 0 noted bytes in
+    let one : length (notesOf 0 noted) ≡ 1 = ap length (samples .one-note) in
+    let p = promise noted transfer cheque noted (0 ∷ []) (notesOf 0 noted) bytes changes in
+    let z = p .0 .done .1 (sound-noted, le-refl (length noted), omega (arith, one)) in
     let left : _≡_ {A = List ℕ} (0 ∷ []) (316198 ∷ []) =
-    sym (copies noted transfer cheque noted (0 ∷ []) z .1)
-    ∙ p .notes-are ∙ sym (on-eq _ z refl) ∙ ap (λ (l : List ℕ). put 0 l (0 ∷ [])) (samples .one-note) in
+    ap₂ take (sym one ∙ sym (p .0 .noted z)) (sym (copies noted transfer cheque noted (0 ∷ []) z .1))
+    ∙ listed-one 0 noted _ _ (p .1 z .noted) changes
+    ∙ samples .one-note in
     omega (arith, ap (λ (l : List ℕ). getD l 0 0) left)

@@ -14,19 +14,20 @@ use Rattle.forwarding.specs.Text.{textAt}
 use Rattle.forwarding.specs.RoundTrip.{Bytes}
 use Rattle.prepare.specs.Prepared.{PreparedAs}
 use Rattle.prepare.specs.declared.Prepared.{Prepared}
+use Rattle.demands.specs.Settled.{Settled}
 use Rattle.demands.specs.Demand2.{Sound}
 
 module _ (page : ℕ) (file : List ℕ) where
   -- each text character replaced, and nothing else changed
   pub record Replaced (sent : List ℕ) : Type 0 where
     pub long : length sent ≡ length file
-    pub text : (i : ℕ) → i < length file → textAt (length file) i ≡ true → getD sent i 0 ≡ rep page (getD file i 0)
-    pub rest : (i : ℕ) → i < length file → textAt (length file) i ≡ false → getD sent i 0 ≡ getD file i 0
+    pub in-text : (i : ℕ) → i < length file → textAt (length file) i ≡ true → getD sent i 0 ≡ rep page (getD file i 0)
+    pub elsewhere : (i : ℕ) → i < length file → textAt (length file) i ≡ false → getD sent i 0 ≡ getD file i 0
 
   -- the character at place i is changed
   pub record Changed (i : ℕ) : Type 0 where
     pub below : i < length file
-    pub text : textAt (length file) i ≡ true
+    pub in-text : textAt (length file) i ≡ true
     pub other : rep page (getD file i 0) ≡ getD file i 0 → ⊥
 
   -- every changed character, with its original byte, and nothing else; each once, since places rise
@@ -34,6 +35,13 @@ module _ (page : ℕ) (file : List ℕ) where
     pub every : (i : ℕ) → Changed i → (k : ℕ) × (k < length notes) × (getD notes k 0 ≡ i * 256 + getD file i 0)
     pub only : (k : ℕ) → k < length notes → (i : ℕ) × Changed i × (getD notes k 0 ≡ i * 256 + getD file i 0)
     pub rising : (j k : ℕ) → j < k → k < length notes → getD notes j 0 / 256 < getD notes k 0 / 256
+
+-- there is one such file, and one such list
+abbrev pub ForwardedIsOne : Type 0
+ForwardedIsOne = (page : ℕ) (file : List ℕ) → Settled (λ (sent : List ℕ). Replaced page file sent)
+
+abbrev pub NotesAreOne : Type 0
+NotesAreOne = (page : ℕ) (file : List ℕ) → Bytes file → Settled (λ (notes : List ℕ). Listed page file notes)
 
 -- what prepare leaves where it answers 0: "the output begins with the forwarded file and the rest of it keeps its bytes; the
 -- note places begin with the notes and the rest keep their numbers"

@@ -1,6 +1,7 @@
 -- Document 01, "Show a field": "from a file, a record number and a field number, the very part of the caller's bytes. The part
 -- is empty exactly when the walk refuses, the record doesn't exist, or that record has no such field."
 use Prim.Native.Nat.{ℕ, _+_, _≤_}
+use Prim.Native.Char.{code}
 use mathlib.Core.Path.{_≡_}
 use mathlib.Core.Bool.{cond}
 use mathlib.Core.List.{List, []}
@@ -10,19 +11,23 @@ use lib.ListN.{length}
 use Rattle.records.specs.Places.{recordAt, part, qText, tText}
 use Rattle.records.specs.declared.Span.{Span}
 use Rattle.structure.specs.Slots.{slotAt}
-use Rattle.structure.specs.Walk.{structureOf}
-use Rattle.structure.specs.declared.Shape.the-variants.{Fits}
+use Rattle.structure.specs.Walk.{letterOf}
 use Rattle.show.specs.Shown.{ShownAs}
 use Rattle.host.specs.Answers.{PlacedAs}
 use Rattle.host.specs.declared.Part.{Part}
+use Rattle.demands.specs.Broken.{TooLong, Unfit, Due}
 
--- in a file of n payments record k is there and has text field f: 1 is in Q, 2 to 9 are in each T, and Z has none
-abbrev pub Has : ℕ → ℕ → ℕ → Type 0
-Has n k f = ((k ≡ 0) × (f ≡ 1)) ⊎ ((1 ≤ k) × (k ≤ n) × (2 ≤ f) × (f ≤ 9))
+-- the walk does not refuse: none of rules 1 to 5 is broken
+abbrev pub Walked : List ℕ → Type 0
+Walked file = (m j i : ℕ) → TooLong file m j i ⊎ Unfit file m j i → ⊥
 
--- the walk does not refuse, and the field is there
+-- record k has text field f: 1 is in Q, 2 to 9 are in each T, and Z has none
+abbrev pub Has : List ℕ → ℕ → ℕ → Type 0
+Has file k f = ((k ≡ 0) × (f ≡ 1)) ⊎ ((letterOf (slotAt file k) ≡ code "T") × (2 ≤ f) × (f ≤ 9))
+
+-- the walk does not refuse, comes to record k, and the field is there
 abbrev pub There : List ℕ → ℕ → ℕ → Type 0
-There file k f = (n : ℕ) × (structureOf file ≡ Fits n) × Has n k f
+There file k f = Walked file × Due file k × Has file k f
 
 abbrev pub EmptyExactly : Type 0
 EmptyExactly =

@@ -1,38 +1,40 @@
--- Document 01, "What every promise settles": "Four programs have to be shut out". A program is what it answers to each input;
--- shut out, it breaks its promise somewhere.
-use Prim.Native.Nat.{ℕ}
+-- Document 01, "What every promise settles": "Four programs have to be shut out". A program is what it answers to each input.
+-- Shut out, it does not do what demand 2 says at every input; so it does not meet its promise either.
+use Prim.Native.Nat.{ℕ, _≤_}
 use mathlib.Core.Path.{_≡_}
-use mathlib.Core.List.{List, _∷_}
-use lib.ListN.{length}
-use Rattle.judge.specs.Records.{fileOf}
-use Rattle.judge.specs.Verdict.{JudgedAs}
+use mathlib.Core.List.{List, []}
 use Rattle.judge.specs.declared.Verdict.{Verdict}
 use Rattle.forwarding.specs.Put.{put}
-use Rattle.prepare.specs.Prepared.{PreparedAs}
+use Rattle.forwarding.specs.RoundTrip.{Bytes}
 use Rattle.prepare.specs.declared.Prepared.{Prepared}
+use Rattle.demands.specs.Broken.{Broken}
+use Rattle.demands.specs.Demand2.{Judges}
+use Rattle.demands.specs.Forwarding.{Listed, Sent, Exactly}
 
 -- a judge: from file, transfer list, cheque list and taken numbers its answer
 abbrev pub Judge : Type 0
 Judge = List ℕ → List ℕ → List ℕ → List ℕ → Verdict
 
 abbrev pub NoJudge : Judge → Type 0
-NoJudge judge = ((file transfer cheque taken : List ℕ) → JudgedAs file transfer cheque taken (judge file transfer cheque taken)) → ⊥
+NoJudge judge = ((file transfer cheque taken : List ℕ) → Judges transfer cheque taken file (judge file transfer cheque taken)) → ⊥
 
--- "the judge that refuses all"
+-- "the judge that refuses all (demand 2's "exactly")"
 abbrev pub RefusesAll : Type 0
 RefusesAll = (judge : Judge) → ((file transfer cheque taken : List ℕ) → judge file transfer cheque taken .number ≡ 0 → ⊥) → NoJudge judge
 
--- "the judge that finds all sound"
+-- "the judge that finds all sound (the same)"
 abbrev pub FindsAllSound : Type 0
 FindsAllSound = (judge : Judge) → ((file transfer cheque taken : List ℕ) → judge file transfer cheque taken .number ≡ 0) → NoJudge judge
 
--- "a judge that reads the first T record and waves the others through": it answers alike for files that differ in the others
+-- a file that breaks nothing but T rules, and none of them at record 1
+abbrev pub BrokenLater : List ℕ → List ℕ → List ℕ → Type 0
+BrokenLater transfer cheque file = (m j i : ℕ) → Broken 0 transfer cheque file m j i → (20 ≤ m) × (m ≤ 35) × (2 ≤ j)
+
+-- "a judge that reads the first T record and waves the others through (rules 20 to 35 hold for each)"
 abbrev pub WavesThrough : Type 0
 WavesThrough =
     (judge : Judge)
-    → ((q t : List ℕ) (ts us : List (List ℕ)) (z transfer cheque taken : List ℕ) → length ts ≡ length us
-    → judge (fileOf q (t ∷ ts) z) transfer cheque taken ≡ judge (fileOf q (t ∷ us) z) transfer cheque taken)
-    → NoJudge judge
+    → ((file transfer cheque : List ℕ) → BrokenLater transfer cheque file → judge file transfer cheque [] .number ≡ 0) → NoJudge judge
 
 -- a prepare: from file, lists, output and note places its answer, and what it leaves in the two
 abbrev pub Prepare : Type 0
@@ -40,12 +42,13 @@ Prepare = List ℕ → List ℕ → List ℕ → List ℕ → List ℕ → Prepa
 
 abbrev pub NoPrepare : Prepare → Type 0
 NoPrepare prepare =
-    ((file transfer cheque out notes : List ℕ)
+    ((file transfer cheque out notes changes : List ℕ) → Bytes file → Listed 0 file changes
     → let o = prepare file transfer cheque out notes in
-    PreparedAs 0 file transfer cheque out notes (o .0) (o .1) (o .2))
+    Exactly 0 file transfer cheque out notes changes (o .0)
+    × (o .0 .number ≡ 0 → Sent 0 file transfer cheque out notes (o .1) (o .2) (o .0 .notes)))
     → ⊥
 
--- "a prepare that copies and notes nothing"
+-- "a prepare that copies and notes nothing (demand 2's table [..])"
 abbrev pub OnlyCopies : Type 0
 OnlyCopies =
     (prepare : Prepare)

@@ -50,7 +50,7 @@ stops file k = not (eqb (faultIn k (slotAt file k)) 0) || eqb (letterOf (slotAt 
 abbrev pub told : List ℕ → ℕ → Shape
 told file k = cond (eqb (faultIn k (slotAt file k)) 0) (Fits (k - 1)) (Refused (faultIn k (slotAt file k)) k)
 
--- Records 0 to 10,000 are all that 7,679,744 bytes can hold: that the walk always ends there is `ends` of Fits
+-- Records 0 to 10,000 are all that 7,679,744 bytes can hold: that the walk always ends there is part of `tells` of Fits
 unfoldable pub structureOf : List ℕ → Shape
 structureOf file =
     cond (ltb 7679744 (length file)) (Refused 1 0) (first (stops file) (told file) (Refused 2 10001) 0 10001)
