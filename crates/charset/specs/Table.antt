@@ -1,4 +1,4 @@
--- Document 01, "Character table": what the receiver carries, and what each other character becomes.
+-- Document 01, "Character table" (RULES 3): what the receiver carries, and what each other character becomes.
 -- A-Z, a-z, 0-9, space and . , - / + % are unchanged. & becomes +, $ becomes S, and the four German characters become
 -- A, O, U and S: page 0 reads them at their DIN 66003 codes, as document 01 says. Every other byte becomes a space. Other
 -- pages, for document 02, A2, read the four at their ISO 8859-1 codes. The theorem, `rep-rep`: a replaced character is its
@@ -40,7 +40,7 @@ look (row ∷ rows) b = cond (eqb b (row .0)) (row .1) (look rows b)
 unfoldable pub rep : ℕ → ℕ → ℕ
 rep page b = cond (unchanged b) b (look (exceptions page) b)
 
--- "Every rule about a text field reads the replaced characters."
+-- "Every rule about a text field reads the replaced characters." (RULES 3.2)
 abbrev pub text : ℕ → List ℕ → List ℕ
 text page s = map (rep page) s
 

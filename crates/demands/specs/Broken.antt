@@ -1,5 +1,5 @@
--- Document 01, "Rules and refusal numbers": when a rule is broken, where, and in which order. Nothing here walks: a record
--- stands at the place that its number gives it.
+-- Document 01, "Rules and refusal numbers" (RULES 4, 6, 7): when a rule is broken, where, and in which order. Nothing
+-- here walks: a record stands at the place that its number gives it.
 use Prim.Native.Nat.{ℕ, zero, suc, _-_, _<_}
 use Prim.Native.Char.{code}
 use mathlib.Core.Path.{_≡_}
@@ -26,7 +26,7 @@ pub record TooLong (file : List ℕ) (number rec at : ℕ) : Type 0 where
   pub first-turn : at ≡ 0
   pub long : 7679744 < length file
 
--- "Walk, at each record": the paper's list of rules 2 to 5, each with what breaks it in the slot of record k
+-- "Walk, at each record" (RULES 4.1): the paper's list of rules 2 to 5, each with what breaks it in the slot of record k
 abbrev pub walkRules : ℕ → List ℕ → List (ℕ × Bool)
 walkRules k slot =
     (2, ltb (length slot) 5)
@@ -80,7 +80,7 @@ Broken page transfer cheque file number rec at =
     TooLong file number rec at ⊎ (Unfit file number rec at ⊎ Wrong page transfer cheque file number rec at)
 
 -- "Structure is walked first over the whole file; then content, record by record, in rising rule number within a record."
--- Rule 1 comes "before anything else"
+-- Rule 1 comes "before anything else" (RULES 7)
 abbrev pub stage : ℕ → ℕ
 stage number = cond (eqb number 1) 0 (cond (leb number 5) 1 2)
 

@@ -1,4 +1,5 @@
--- Document 01, "Both sides of each edge": the cases marked (P), one row each, in one table. That every row holds is one fact.
+-- Document 01, "Both sides of each edge" (RULES 12): the cases marked (P), one row each, in one table. That every row
+-- holds is one fact.
 use Prim.Native.Nat.{ℕ}
 use Prim.Native.Char.{code}
 use mathlib.Core.Bool.{Bool, _&&_, not}

@@ -1,7 +1,7 @@
 -- Demand 1: "Any bytes, any country lists, any room may be handed in. Every call ends with an answer or a numbered refusal, and
--- a refused call changes no byte that it was lent." Which numbers a call can answer, by document 01's table; show answers a
--- part. And what is left of lent memory: judge, show and the program are lent nothing for writing; prepare is lent output and
--- note places, restore an output.
+-- a refused call changes no byte that it was lent." (RULES 9.1) Which numbers a call can answer, by document 01's table
+-- (RULES 4, 6, 8); show answers a part. And what is left of lent memory: judge, show and the program are lent nothing for
+-- writing; prepare is lent output and note places, restore an output.
 use Prim.Native.Nat.{ℕ, _≤_}
 use mathlib.Core.Path.{_≡_}
 use mathlib.Core.List.{List}

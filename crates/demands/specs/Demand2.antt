@@ -1,5 +1,5 @@
 -- Demand 2: "A file is sound exactly when it breaks no rule; otherwise the answer is the first broken rule in the stated
--- order, with its record."
+-- order, with its record." (RULES 7) And what the judge answers of it (RULES 9.2).
 use Prim.Native.Nat.{ℕ}
 use mathlib.Core.Path.{_≡_}
 use mathlib.Core.List.{List}

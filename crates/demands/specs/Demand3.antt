@@ -1,6 +1,6 @@
--- Demand 3: "Two different sound files never share forwarded file and notes. Restore accepts a pair exactly when some sound
--- file yields it, and gives back that very file. The forwarded file is sound and yields itself, with no notes." Under fixed
--- country lists, which every statement below is given first.
+-- Demand 3: "Two different sound files never share forwarded file and notes. Restore accepts a pair exactly when some
+-- sound file yields it, and gives back that very file. The forwarded file is sound and yields itself, with no notes."
+-- (RULES 10) Under fixed country lists, which every statement below is given first.
 use Prim.Native.Nat.{ℕ, _≤_, _<_}
 use mathlib.Core.Path.{_≡_}
 use mathlib.Core.List.{List, []}
@@ -30,7 +30,7 @@ YieldsExactly =
 abbrev pub NeverShared : Type 0
 NeverShared = (transfer cheque f g sent notes : List ℕ) → Yields transfer cheque f sent notes → Yields transfer cheque g sent notes → f ≡ g
 
--- what restore answers: "60 first, then 70, record 0 for both"
+-- what restore answers: "60 first, then 70, record 0 for both" (RULES 9.5)
 pub record Accepts (transfer cheque sent notes out : List ℕ) (answer : Restored) : Type 0 where
   pub done : (answer .number ≡ 0) ↔ ((length sent ≤ length out) × ((file : List ℕ) × Yields transfer cheque file sent notes))
   pub no-room : (answer .number ≡ 60) ↔ (length out < length sent)

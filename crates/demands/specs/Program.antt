@@ -1,6 +1,7 @@
--- Document 01, the program and the judge for payroll hosts. "The program reads standard input, at most 65,024 bytes (84 T
--- records); more gives verdict 6 at record 0 before any rule. It lends no taken numbers and counts the changed characters
--- whatever note places it has, so it never shows 50, 60 or 61." "Refused: the last four lines show 0."
+-- Document 01, the program (RULES 9.7) and the judge for payroll hosts (RULES 9.3). "The program reads standard input,
+-- at most 65,024 bytes (84 T records); more gives verdict 6 at record 0 before any rule. It lends no taken numbers and
+-- counts the changed characters whatever note places it has, so it never shows 50, 60 or 61." "Refused: the last four
+-- lines show 0."
 use Prim.Native.Nat.{ℕ, _/_, _%_, _≤_, _<_}
 use mathlib.Core.Path.{_≡_}
 use mathlib.Core.List.{List, []}

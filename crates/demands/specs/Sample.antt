@@ -1,4 +1,4 @@
--- Records to compute with: small sound files, written field by field in document 01's order.
+-- Records to compute with: small sound files, written field by field in document 01's order (RULES 2.2 to 2.4).
 use Prim.Native.Nat.{ℕ}
 use Prim.Native.Char.{code}
 use Prim.Native.String.{String}
@@ -38,7 +38,7 @@ z euros payments = ascii "0256Z" ++ ascii euros ++ ascii payments ++ spaces 221
 abbrev pub one : String → String → List ℕ
 one payee cents = fileOf q (t payee "00000000000120" cents ∷ []) (z "000000000000120" "000000000000001")
 
--- two, of 120,50 and of 79,75, the second to a payee, with this Z3
+-- two, of 120,50 and of 79,75 (RULES 11), the second to a payee, with this Z3
 abbrev pub first : List ℕ
 first = t "A. MUSTER" "00000000000120" "500"
 

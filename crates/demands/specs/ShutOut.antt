@@ -1,5 +1,6 @@
--- Document 01, "What every promise settles": "Four programs have to be shut out". A program is what it answers to each input.
--- Shut out, it does not do what demand 2 says at every input; so it does not meet its promise either.
+-- Document 01, "What every promise settles" (RULES 14): "Four programs have to be shut out". A program is what it
+-- answers to each input. Shut out, it does not do what demand 2 says at every input; so it does not meet its promise
+-- either.
 use Prim.Native.Nat.{ℕ, _≤_}
 use mathlib.Core.Path.{_≡_}
 use mathlib.Core.List.{List, []}

@@ -1,6 +1,6 @@
--- Document 01, "What every promise settles": "Digit, zero and blank tests at any field width rest on a fact proved once over
--- the width." Of any class and any field: the test passes exactly where every byte of it is of the class; and of text, read
--- as replaced characters, every replaced one. "Blank" is this test for spaces.
+-- Document 01, "What every promise settles" (RULES 14): "Digit, zero and blank tests at any field width rest on a fact
+-- proved once over the width." Of any class and any field: the test passes exactly where every byte of it is of the
+-- class; and of text, read as replaced characters, every replaced one. "Blank" is this test for spaces.
 use Prim.Native.Nat.{ℕ, _<_}
 use mathlib.Core.Path.{_≡_}
 use mathlib.Core.Bool.{true}

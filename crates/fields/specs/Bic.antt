@@ -1,5 +1,5 @@
--- Document 01, "BIC shape (ISO 9362, as in source document 003)": four capitals, two capitals, two capitals or digits,
--- then three spaces or three capitals or digits, of the replaced characters of T8.
+-- Document 01, "BIC shape (ISO 9362, as in source document 003)" (RULES 5.4): four capitals, two capitals, two capitals
+-- or digits, then three spaces or three capitals or digits, of the replaced characters of T8.
 use Prim.Native.Nat.{ℕ}
 use mathlib.Core.Bool.{Bool, _&&_, _||_}
 use mathlib.Core.List.{List}

@@ -1,5 +1,6 @@
--- What the bytes of a field may be: "digit", "zeros", "spaces", "capitals", "capitals or digits" of document 01's rules.
--- A text field is read after replacement: `allOf Capital (text page s)`. "Blank" means all spaces after replacement.
+-- What the bytes of a field may be: "digit", "zeros", "spaces", "capitals", "capitals or digits" of document 01's rules
+-- (RULES 5.1). A text field is read after replacement: `allOf Capital (text page s)`. "Blank" means all spaces after
+-- replacement (RULES 3.2).
 use Prim.Native.Nat.{ℕ}
 use mathlib.Core.Bool.{Bool, true, false, _&&_, _||_}
 use mathlib.Core.List.{List, [], _∷_}

@@ -1,5 +1,5 @@
--- Document 01, lent lists: "Country lists are lent bytes: two bytes a country, a lone last byte ignored, any content allowed."
--- "Taken numbers are lent as a list of 64-bit numbers."
+-- Document 01, lent lists: "Country lists are lent bytes: two bytes a country, a lone last byte ignored, any content
+-- allowed." (RULES 5.5) "Taken numbers are lent as a list of 64-bit numbers." (RULES 5.6)
 use Prim.Native.Nat.{ℕ}
 use mathlib.Core.Bool.{Bool, false, _&&_, _||_}
 use mathlib.Core.List.{List, [], _∷_}

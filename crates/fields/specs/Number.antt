@@ -1,4 +1,4 @@
--- Document 01: numbers in decimal digits, and "date YYMMDD (years 2000 to 2099)".
+-- Document 01: numbers in decimal digits (RULES 5.2), and "date YYMMDD (years 2000 to 2099)" (RULES 5.3).
 use Prim.Native.Nat.{ℕ, _+_, _*_, _-_, _%_}
 use mathlib.Core.Bool.{Bool, _&&_, _||_, cond}
 use mathlib.Core.List.{List}

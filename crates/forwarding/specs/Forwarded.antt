@@ -1,6 +1,6 @@
--- The forwarded file and the notes, place by place. Document 01: "A note is a 32-bit number, place in the file × 256 +
--- original byte."; demand 2: each text character is replaced by the table, and the notes list every changed character
--- once, by rising place.
+-- The forwarded file and the notes, place by place (RULES 10.1, 10.2). Document 01: "A note is a 32-bit number, place in
+-- the file × 256 + original byte."; demand 2: each text character is replaced by the table, and the notes list every
+-- changed character once, by rising place.
 use Prim.Native.Nat.{ℕ, suc, _+_, _*_}
 use mathlib.Core.Bool.{Bool, _&&_, not, cond}
 use mathlib.Core.List.{List, [], _∷_}

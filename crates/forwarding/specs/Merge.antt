@@ -1,7 +1,7 @@
--- Document 01, rule 70 and what restore gives back, place by place: the forwarded bytes with each note's byte put back at
--- its place, and which pairs of forwarded bytes and notes there are. Both lists are read by rising place. So a note that
--- falls back, that stands at the place of the one before it, or past the last byte, is never reached, and the pair is
--- refused.
+-- Document 01, rule 70 and what restore gives back (RULES 10.3), place by place: the forwarded bytes with each note's
+-- byte put back at its place, and which pairs of forwarded bytes and notes there are. Both lists are read by rising
+-- place. So a note that falls back, that stands at the place of the one before it, or past the last byte, is never
+-- reached, and the pair is refused.
 use Prim.Native.Nat.{ℕ, suc, _/_, _%_}
 use mathlib.Core.Bool.{Bool, true, false, _&&_, not, cond}
 use mathlib.Core.List.{List, [], _∷_}

@@ -1,5 +1,5 @@
--- Document 01: "the output begins with the forwarded file and the rest of it keeps its bytes". Writing into lent room: a
--- list over the elements from a place on, and the rest as it was.
+-- Document 01: "the output begins with the forwarded file and the rest of it keeps its bytes" (RULES 9.4). Writing into
+-- lent room: a list over the elements from a place on, and the rest as it was.
 use Prim.Native.Nat.{ℕ, _+_, _-_, _≤_, _<_}
 use mathlib.Core.Path.{_≡_, sym, ap, _∙_, subst}
 use mathlib.Core.List.{List, [], _∷_, _++_, append-assoc}

@@ -1,5 +1,5 @@
--- Which places of a file are text. Document 01: the text fields are Q5 of record 0, and T8, T9b, T10b, T12, T15, T20, T23
--- and T24 of each T record; Z has none.
+-- Which places of a file are text. Document 01 (RULES 2.5): the text fields are Q5 of record 0, and T8, T9b, T10b, T12,
+-- T15, T20, T23 and T24 of each T record; Z has none.
 use Prim.Native.Nat.{ℕ, _+_, _-_, _%_}
 use mathlib.Core.Bool.{Bool, false, _&&_, _||_, cond}
 use mathlib.Core.List.{List, [], _∷_}

@@ -1,5 +1,5 @@
 -- Document 01: "Payroll hosts written in C call the judge with byte slices, without taken numbers, and get record × 100 +
--- number." And a shown field's place and length.
+-- number." (RULES 9.3) And a shown field's place and length (RULES 9.6).
 use Prim.Native.Nat.{ℕ, _+_, _*_, _-_}
 use mathlib.Core.Path.{_≡_}
 use mathlib.Core.List.{List, []}

@@ -1,5 +1,5 @@
--- Document 01: "then content, record by record, in rising rule number within a record". Record 0 has rules 10 to 16,
--- records 1 to n have 20 to 35, and Z, which is record n + 1, has 40 to 42.
+-- Document 01: "then content, record by record, in rising rule number within a record" (RULES 7). Record 0 has rules 10
+-- to 16, records 1 to n have 20 to 35, and Z, which is record n + 1, has 40 to 42.
 use Prim.Native.Nat.{ℕ, _+_, _<_}
 use mathlib.Core.Bool.{Bool, true, false, cond}
 use mathlib.Core.List.{List}

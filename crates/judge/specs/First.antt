@@ -1,5 +1,5 @@
--- The first broken rule: in a run of rules, and in a run of records with rules each. `F k rule` is what rule says of
--- record k: 0, or the place of the field that breaks it.
+-- The first broken rule (RULES 7): in a run of rules, and in a run of records with rules each. `F k rule` is what rule
+-- says of record k: 0, or the place of the field that breaks it.
 use Prim.Native.Nat.{ℕ, _<_}
 use mathlib.Core.Path.{_≡_, refl}
 use mathlib.Core.Bool.{Bool, not}

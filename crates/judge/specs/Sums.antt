@@ -1,6 +1,6 @@
 -- Document 01, the sums over the T records: whole euros of T14a, and cents, "first two digits of T14b, added, not carried
--- into euros".
--- And a file's number, "the 18 digits of Q4, Q6, Q7 as one whole number".
+-- into euros" (RULES 9.2).
+-- And a file's number, "the 18 digits of Q4, Q6, Q7 as one whole number" (RULES 5.6).
 use Prim.Native.Nat.{ℕ, zero, suc, _+_, _*_, _^_, _≤_, _<_}
 use mathlib.Core.Path.{_≡_, sym, _∙_}
 use mathlib.Core.List.{List, [], _∷_, _++_}

@@ -1,4 +1,4 @@
--- Document 01, "What each call answers": the judge.
+-- Document 01, "What each call answers": the judge (RULES 9.2).
 use Prim.Native.Nat.{ℕ}
 use mathlib.Core.Path.{_≡_}
 use mathlib.Core.Bool.{cond}
@@ -36,7 +36,7 @@ verdictBy (Fits n) page file transfer cheque =
 unfoldable pub verdictOf : ℕ → List ℕ → List ℕ → List ℕ → Verdict
 verdictOf page file transfer cheque = verdictBy (structureOf file) page file transfer cheque
 
--- "Rule 50 belongs to the judge alone and comes after all others"; "For 50, the record is 0."
+-- "Rule 50 belongs to the judge alone and comes after all others"; "For 50, the record is 0." (RULES 7, 8)
 abbrev pub orTaken : Verdict → List ℕ → List ℕ → Verdict
 orTaken verdict file taken =
     cond (eqb (verdict .number) 0) (cond (isTaken taken (fileNumber (slotAt file 0))) (refused 50 0) verdict) verdict

@@ -1,4 +1,5 @@
--- Document 01, rules 20 to 35: a T record. Rules that speak of transfers or of cheques say nothing for any other T22.
+-- Document 01, rules 20 to 35 (RULES 6.2): a T record. Rules that speak of transfers or of cheques say nothing for any
+-- other T22.
 use Prim.Native.Nat.{ℕ}
 use Prim.Native.Char.{code}
 use mathlib.Core.Bool.{Bool, _&&_, _||_, not, cond}

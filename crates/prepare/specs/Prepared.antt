@@ -1,4 +1,4 @@
--- Document 01, "What each call answers": prepare, on a code page. The call of document 01 reads page 0.
+-- Document 01, "What each call answers": prepare (RULES 9.4), on a code page. The call of document 01 reads page 0.
 use Prim.Native.Nat.{ℕ}
 use mathlib.Core.Path.{_≡_}
 use mathlib.Core.Bool.{cond}

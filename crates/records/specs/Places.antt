@@ -1,4 +1,4 @@
--- Document 01, "Records": where each record and each field stands.
+-- Document 01, "Records" (RULES 2): where each record and each field stands.
 -- Offsets count from 0 in the record, and a place is written as the paper writes it, first and last byte: `210 to 349`.
 -- Laws: the fields of each kind follow one another without gap or overlap from 5 to the record's end, and the four lines
 -- of a field of 140 bytes do so in it.
@@ -81,13 +81,13 @@ lineOf s k = record { start = s .start + 35 * (k - 1); end = s .start + 35 * k }
 unfoldable pub part : Span → List ℕ → List ℕ
 part s rec = take (s .end - s .start) (drop (s .start) rec)
 
--- "the very part of the caller's bytes": memory is blocks, and a place in it is a block and an offset there. Of bytes that
--- begin at `from`, the part at s begins at `at`, and is those bytes
+-- "the very part of the caller's bytes" (RULES 9.6): memory is blocks, and a place in it is a block and an offset there.
+-- Of bytes that begin at `from`, the part at s begins at `at`, and is those bytes
 pub record PartOf (s : Span) (from : ℕ × ℕ) (bytes : List ℕ) (at : ℕ × ℕ) (xs : List ℕ) : Type 0 where
   pub there : at ≡ (from .0, s .start + from .1)
   pub holds : xs ≡ part s bytes
 
--- "Text fields, numbered for display": each with its number; a record has no other
+-- "Text fields, numbered for display" (RULES 2.5): each with its number; a record has no other
 abbrev pub nowhere : Span
 nowhere = record { start = 0; end = 0 }
 

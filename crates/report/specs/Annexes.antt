@@ -1,5 +1,5 @@
--- Document 01: "The program's lists are Annex II (transfers) and Annex I (cheques) of source document 000", in document
--- order: 156 and 22 countries.
+-- Document 01: "The program's lists are Annex II (transfers) and Annex I (cheques) of source document 000" (RULES 5.5),
+-- in document order: 156 and 22 countries.
 use Prim.Native.Nat.{ℕ}
 use mathlib.Core.Bool.{_&&_}
 use mathlib.Core.List.{List, _++_}

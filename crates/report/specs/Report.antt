@@ -1,5 +1,6 @@
--- Document 01: "The program reads standard input, at most 65,024 bytes (84 T records); more gives verdict 6 at record 0
--- before any rule. It lends no taken numbers and counts the changed characters". "Refused: the last four lines show 0."
+-- Document 01 (RULES 9.7): "The program reads standard input, at most 65,024 bytes (84 T records); more gives verdict 6
+-- at record 0 before any rule. It lends no taken numbers and counts the changed characters". "Refused: the last four
+-- lines show 0."
 use Prim.Native.Nat.{ℕ}
 use mathlib.Core.Path.{_≡_}
 use mathlib.Core.Bool.{cond}

@@ -1,5 +1,5 @@
--- Document 01, "What each call answers": "Restore: 60 first, then 70, record 0 for both. If 0, the output begins with the
--- original, the rest of it keeps its bytes, and the record is 0. All lent notes count."
+-- Document 01, "What each call answers" (RULES 9.5): "Restore: 60 first, then 70, record 0 for both. If 0, the output
+-- begins with the original, the rest of it keeps its bytes, and the record is 0. All lent notes count."
 use Prim.Native.Nat.{ℕ}
 use mathlib.Core.Path.{_≡_}
 use mathlib.Core.Bool.{Bool, _&&_, cond}

@@ -1,5 +1,5 @@
--- Document 01, rule 70 and demand 3: what it is that a sound file yields a pair of a forwarded file and notes. Its elements
--- are bytes.
+-- Document 01, rule 70 and demand 3 (RULES 10.3): what it is that a sound file yields a pair of a forwarded file and
+-- notes. Its elements are bytes.
 use Prim.Native.Nat.{ℕ}
 use mathlib.Core.Path.{_≡_}
 use mathlib.Core.List.{List}

@@ -1,4 +1,4 @@
--- Document 01, rules 10 to 16: the Q record.
+-- Document 01, rules 10 to 16 (RULES 6.1): the Q record.
 use Prim.Native.Nat.{ℕ}
 use mathlib.Core.Bool.{Bool, _&&_, not}
 use mathlib.Core.List.{List, [], _∷_}

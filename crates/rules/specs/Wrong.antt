@@ -1,4 +1,4 @@
--- How a rule of document 01 is stated: fields as they should be, in the order in which they are read.
+-- How a rule of document 01 (RULES 6) is stated: fields as they should be, in the order in which they are read.
 -- A rule answers 0 where the record keeps it, else the offset of the lowest-placed field that breaks it (fields start at
 -- 5, so 0 is free): document 01 asks only whether it is 0, document 02, A1, for the offset. Rules read text only as
 -- replaced characters.

@@ -1,4 +1,4 @@
--- Document 01, rules 40 to 42: the Z record, with the number of T records and the sum of their T14a.
+-- Document 01, rules 40 to 42 (RULES 6.3): the Z record, with the number of T records and the sum of their T14a.
 use Prim.Native.Nat.{ℕ}
 use mathlib.Core.Bool.{Bool}
 use mathlib.Core.List.{List, [], _∷_}

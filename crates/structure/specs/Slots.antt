@@ -1,6 +1,7 @@
 -- The slot of a record: the bytes from its place on, as many as the longest record that may stand there. That is 256 for
 -- record 0 and 768 for every later one, Z included; a slot is shorter where the file ends. All that the desk asks of a
--- record, it asks of its slot: fewer bytes left than a record needs, and bytes after Z, show in the slot's length.
+-- record, it asks of its slot: fewer bytes left than a record needs, and bytes after Z (RULES 4.1), show in the slot's
+-- length.
 use Prim.Native.Nat.{ℕ, _+_, _*_, _-_, _≤_, min}
 use mathlib.Core.Path.{_≡_, refl, sym, ap, ap₂, _∙_}
 use mathlib.Core.Bool.{Bool, true, false, cond}

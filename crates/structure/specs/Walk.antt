@@ -1,6 +1,6 @@
--- Document 01, "Walk, at each record", in its order: fewer than 5 bytes left 2, letter not allowed here 4, length digits
--- wrong for the letter 3, fewer bytes left than the length 2, bytes after Z 5. Before anything else, a file longer than
--- 7,679,744 bytes is 1 at record 0.
+-- Document 01, "Walk, at each record" (RULES 4.1), in its order: fewer than 5 bytes left 2, letter not allowed here 4,
+-- length digits wrong for the letter 3, fewer bytes left than the length 2, bytes after Z 5. Before anything else, a file
+-- longer than 7,679,744 bytes is 1 at record 0.
 use Prim.Native.Nat.{ℕ, _-_}
 use Prim.Native.Char.{code}
 use mathlib.Core.Bool.{Bool, _&&_, _||_, not, cond}
@@ -24,7 +24,7 @@ letterOf slot = getD slot 4 0
 abbrev pub allowed : ℕ → ℕ → Bool
 allowed k letter = cond (eqb k 0) (eqb letter (code "Q")) (eqb letter (code "T") || (eqb letter (code "Z") && leb 2 k))
 
--- "Each kind of record has one letter and one length: Q 256, T 768, Z 256."
+-- "Each kind of record has one letter and one length: Q 256, T 768, Z 256." (RULES 2.1)
 abbrev pub lengthFor : ℕ → ℕ
 lengthFor letter = cond (eqb letter (code "T")) 768 256
 
