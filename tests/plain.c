@@ -1,477 +1,742 @@
-/* The desk in plain C, after document 01: judge, prepare, restore, show a field.
-   The names and places of the fields and the numbers of the rules are the paper's. */
-
+/* The second opinion of the comparison, written from document 01 alone, for plainness and not for speed.
+   The order is the paper's: records, character table, walk, rules, calls. Sentences of the paper stand as comments
+   beside what does them. */
 #include "plain.h"
 
 #include <stdbool.h>
-#include <string.h>
 
-/* ---- Records and places ------------------------------------------------------------------- */
+/* ---- Lent memory. Only the four functions here read files, country lists and notes, or write to memory, and each of
+        them stays inside what it was given. (The taken numbers are read in is_taken alone.) ---- */
 
+typedef struct { const uint8_t *bytes; size_t n; } lent;
+typedef struct { const uint32_t *numbers; size_t n; } lent_notes;
+typedef struct { uint8_t *bytes; size_t n; } room;
+typedef struct { uint32_t *numbers; size_t n; } note_room;
+
+/* The byte at a place; 0 outside of what was lent. */
+static uint8_t byte_at(lent l, size_t place)
+{
+    return place < l.n ? l.bytes[place] : 0;
+}
+
+/* The note at an index; 0 outside of what was lent. */
+static uint32_t note_at(lent_notes l, size_t index)
+{
+    return index < l.n ? l.numbers[index] : 0;
+}
+
+/* Writes a byte at a place; nothing outside of the room. */
+static void put(room out, size_t place, uint8_t byte)
+{
+    if (place < out.n)
+        out.bytes[place] = byte;
+}
+
+/* Writes a note at an index; nothing outside of the room. */
+static void put_note(note_room notes, size_t index, uint32_t note)
+{
+    if (index < notes.n)
+        notes.numbers[index] = note;
+}
+
+/* ---- Records ---- */
+
+/* Each kind of record has one letter and one length: Q 256, T 768, Z 256. */
 enum { Q_LENGTH = 256, T_LENGTH = 768, Z_LENGTH = 256 };
-enum { MOST_BYTES = Q_LENGTH + 9999 * T_LENGTH + Z_LENGTH };      /* 7,679,744 */
 
-/* A place is written as the paper writes it: first and last offset in the record. */
-#define Q3        5, 12
-#define Q4       13, 22
-#define Q4_zeros 13, 20
-#define Q4_rest  21, 22
-#define Q5       23, 162
-#define Q5_line1 23, 57
-#define Q6      163, 168
-#define Q7      169, 170
-#define Q8      171, 176
-#define Q9      177, 177
-#define Q10     178, 179
-#define Q11     180, 187
-#define Q12     188, 255
+/* 7,679,744 bytes (9,999 T records) */
+enum { MOST_PAYMENTS = 9999, LONGEST_FILE = 7679744 };
+_Static_assert(LONGEST_FILE == Q_LENGTH + MOST_PAYMENTS * T_LENGTH + Z_LENGTH, "the longest file");
 
-#define T3        5, 12
-#define T4a      13, 15
-#define T4b      16, 25
-#define T5       26, 31
-#define T6       32, 39
-#define T7a      40, 42
-#define T7b      43, 52
-#define T8       53, 63
-#define T9a      64, 66
-#define T9b      67, 206
-#define T10a    207, 209
-#define T10b    210, 349
-#define T10b_line1 210, 244
-#define T10b_line3 280, 314
-#define T10b_line4 315, 349
-#define T11     350, 419
-#define T12     420, 454
-#define T13     455, 457
-#define T14a    458, 471
-#define T14b    472, 474
-#define T14b_cents 472, 473
-#define T14b_last  474, 474
-#define T15     475, 614
-#define T16_T19 615, 622
-#define T20     623, 647
-#define T21     648, 649
-#define T22     650, 651
-#define T23     652, 678
-#define T24     679, 713
-#define T25     714, 714
-#define T26     715, 765
-#define T27     766, 767
+/* Places are offsets in the record from 0, both ends included. */
+typedef struct { size_t first, last; } stretch;
 
-#define Z3        5, 19
-#define Z4       20, 34
-#define Z5       35, 255
+/* Each begins with four ASCII digits for its length, which count themselves, and then its letter. */
+static const stretch LENGTH = {0, 3}, LETTER = {4, 4};
 
-/* Text fields as numbered for display: 1 stands in Q, 2 to 9 in T. */
-typedef struct { unsigned first, last; } place;
-static const place text_field[10] = {
-    {0, 0}, {Q5}, {T8}, {T9b}, {T10b}, {T12}, {T15}, {T20}, {T23}, {T24}
+static const stretch
+    Q3 = {5, 12}, Q4 = {13, 22}, Q5 = {23, 162} /* four lines of 35 */, Q6 = {163, 168}, Q7 = {169, 170},
+    Q8 = {171, 176}, Q9 = {177, 177}, Q10 = {178, 179}, Q11 = {180, 187}, Q12 = {188, 255};
+
+static const stretch
+    T3 = {5, 12}, T4a = {13, 15}, T4b = {16, 25}, T5 = {26, 31}, T6 = {32, 39}, T7a = {40, 42}, T7b = {43, 52},
+    T8 = {53, 63}, T9a = {64, 66}, T9b = {67, 206}, T10a = {207, 209}, T10b = {210, 349} /* four lines of 35 */,
+    T11 = {350, 419}, T12 = {420, 454}, T13 = {455, 457}, T14a = {458, 471}, T14b = {472, 474}, T15 = {475, 614},
+    T16_to_T19 = {615, 622} /* two bytes each */, T20 = {623, 647}, T21 = {648, 649}, T22 = {650, 651},
+    T23 = {652, 678}, T24 = {679, 713}, T25 = {714, 714}, T26 = {715, 765}, T27 = {766, 767};
+
+static const stretch
+    Z3 = {5, 19}, Z4 = {20, 34}, Z5 = {35, 255};
+
+/* Text fields, numbered for display: 1 Q5, 2 T8, 3 T9b, 4 T10b, 5 T12, 6 T15, 7 T20, 8 T23, 9 T24.
+   They stand in rising places, and so do the notes made from them. */
+typedef struct { uint64_t number; uint8_t letter; const stretch *place; } text_field;
+
+static const text_field TEXT_FIELD[] = {
+    {1, 'Q', &Q5},
+    {2, 'T', &T8},
+    {3, 'T', &T9b},
+    {4, 'T', &T10b},
+    {5, 'T', &T12},
+    {6, 'T', &T15},
+    {7, 'T', &T20},
+    {8, 'T', &T23},
+    {9, 'T', &T24},
 };
 
-/* ---- Character table ---------------------------------------------------------------------- */
+enum { TEXT_FIELDS = sizeof TEXT_FIELD / sizeof TEXT_FIELD[0] };
 
-/* The replacement of each byte, sixteen to a row; a byte is unchanged when it is its own. */
-static const uint8_t table[257] =
-    "                "  /* 00 */  "                "  /* 10 */
-    "    S%+    +,-./"  /* 20 */  "0123456789      "  /* 30 */
-    " ABCDEFGHIJKLMNO"  /* 40 */  "PQRSTUVWXYZAOU  "  /* 50 */
-    " abcdefghijklmno"  /* 60 */  "pqrstuvwxyz   S "  /* 70 */
-    "                "  /* 80 */  "                "  /* 90 */
-    "                "  /* A0 */  "                "  /* B0 */
-    "                "  /* C0 */  "                "  /* D0 */
-    "                "  /* E0 */  "                "; /* F0 */
+/* A record: the file that it stands in, and the place in the file at which it starts. */
+typedef struct { lent file; size_t start; } rec;
 
-/* ---- Tests of a field --------------------------------------------------------------------- */
-
-static inline bool digit(uint8_t b)   { return (uint8_t)(b - '0') <= 9; }
-static inline bool capital(uint8_t b) { return (uint8_t)(b - 'A') <= 'Z' - 'A'; }
-
-static inline bool digits(const uint8_t *r, unsigned first, unsigned last)
+static uint8_t byte_of(rec r, size_t offset)
 {
-    bool good = true;
-    for (unsigned i = first; i <= last; i++)
-        good &= digit(r[i]);
-    return good;
+    return byte_at(r.file, r.start + offset);
 }
 
-static inline bool all(uint8_t wanted, const uint8_t *r, unsigned first, unsigned last)
+static uint8_t letter_of(rec r)
 {
-    uint8_t off = 0;
-    for (unsigned i = first; i <= last; i++)
-        off |= r[i] ^ wanted;
-    return off == 0;
+    return byte_of(r, LETTER.first);
 }
 
-static inline bool is(const char *wanted, const uint8_t *r, unsigned first, unsigned last)
+static size_t length_for(uint8_t letter)
 {
-    return memcmp(r + first, wanted, last - first + 1) == 0;
+    switch (letter) {
+    case 'Q': return Q_LENGTH;
+    case 'T': return T_LENGTH;
+    default:  return Z_LENGTH;
+    }
 }
 
-static inline bool same(const uint8_t *r, const uint8_t *s, unsigned first, unsigned last)
+/* Q is record 0, T records count from 1, Z is last. Only asked after the walk, for records that exist. */
+static rec numbered(lent file, uint64_t record)
 {
-    return memcmp(r + first, s + first, last - first + 1) == 0;
+    rec r = {file, 0};
+    if (record > 0)
+        r.start = Q_LENGTH + T_LENGTH * (size_t)(record - 1);
+    return r;
 }
 
-/* Blank: all spaces after replacement. */
-static inline bool blank(const uint8_t *r, unsigned first, unsigned last)
+static size_t width(stretch s)
 {
-    for (unsigned i = first; i <= last; i++)
-        if (table[r[i]] != ' ')
+    return s.last - s.first + 1;
+}
+
+/* A part of a field, its ends counted from 0 in the field, both included. */
+static stretch part(stretch s, size_t first, size_t last)
+{
+    return (stretch){s.first + first, s.first + last};
+}
+
+/* One of a field's lines of 35, counted from 1. */
+static stretch line(stretch s, size_t number)
+{
+    return part(s, 35 * (number - 1), 35 * number - 1);
+}
+
+/* ---- Character table ---- */
+
+static bool is_space(uint8_t byte)   { return byte == ' '; }
+static bool is_zero(uint8_t byte)    { return byte == '0'; }
+static bool is_digit(uint8_t byte)   { return byte >= '0' && byte <= '9'; }
+static bool is_capital(uint8_t byte) { return byte >= 'A' && byte <= 'Z'; }
+static bool is_small(uint8_t byte)   { return byte >= 'a' && byte <= 'z'; }
+static bool is_capital_or_digit(uint8_t byte) { return is_capital(byte) || is_digit(byte); }
+
+/* The whole table. A byte is changed when its replacement differs from it; nothing else says so. */
+static uint8_t replaced(uint8_t byte)
+{
+    /* Unchanged: A-Z, a-z, 0-9, space and . , - / + % */
+    if (is_capital(byte) || is_small(byte) || is_digit(byte))
+        return byte;
+    switch (byte) {
+    case ' ': case '.': case ',': case '-': case '/': case '+': case '%':
+        return byte;
+    /* & becomes +. $ becomes S. */
+    case '&': return '+';
+    case '$': return 'S';
+    /* German characters at their DIN 66003 codes: hex 5B becomes A, 5C O, 5D U, 7E S. */
+    case 0x5B: return 'A';
+    case 0x5C: return 'O';
+    case 0x5D: return 'U';
+    case 0x7E: return 'S';
+    /* Every other byte, apostrophe and all bytes from 128 up among them, becomes a space. */
+    default: return ' ';
+    }
+}
+
+/* ---- Tests on a stretch of a record ---- */
+
+/* Every byte of the stretch, as it stands, passes the test. */
+static bool every(rec r, stretch s, bool (*test)(uint8_t))
+{
+    for (size_t offset = s.first; offset <= s.last; offset++)
+        if (!test(byte_of(r, offset)))
             return false;
     return true;
 }
 
-static inline uint64_t value(const uint8_t *r, unsigned first, unsigned last)
+/* Every rule about a text field reads the replaced characters: every one of them passes the test. */
+static bool every_replaced(rec r, stretch s, bool (*test)(uint8_t))
 {
-    uint64_t sum = 0;
-    for (unsigned i = first; i <= last; i++)
-        sum = sum * 10 + (r[i] - '0');
-    return sum;
-}
-
-/* YYMMDD in the years 2000 to 2099: every fourth year has a 29 February. */
-static bool date(const uint8_t *r, unsigned first, unsigned last)
-{
-    static const uint8_t days[13] = {0, 31, 28, 31, 30, 31, 30, 31, 31, 30, 31, 30, 31};
-    if (!digits(r, first, last))
-        return false;
-    uint64_t year = value(r, first, first + 1);
-    uint64_t month = value(r, first + 2, first + 3);
-    uint64_t day = value(r, first + 4, last);
-    if (month < 1 || month > 12 || day < 1)
-        return false;
-    return day <= days[month] || (month == 2 && day == 29 && year % 4 == 0);
-}
-
-/* ISO 9362: four capitals, two capitals, two capitals or digits, three spaces or three capitals
-   or digits; T8 is a text field, so its replaced characters are read. */
-static bool bic_shape(const uint8_t *r, unsigned first, unsigned last)
-{
-    uint8_t c[11];
-    for (unsigned i = first; i <= last; i++)
-        c[i - first] = table[r[i]];
-    for (unsigned i = 0; i < 6; i++)
-        if (!capital(c[i]))
-            return false;
-    for (unsigned i = 6; i < 8; i++)
-        if (!capital(c[i]) && !digit(c[i]))
-            return false;
-    if (memcmp(c + 8, "   ", 3) == 0)
-        return true;
-    for (unsigned i = 8; i < 11; i++)
-        if (!capital(c[i]) && !digit(c[i]))
+    for (size_t offset = s.first; offset <= s.last; offset++)
+        if (!test(replaced(byte_of(r, offset))))
             return false;
     return true;
 }
 
-/* ---- Country lists ------------------------------------------------------------------------ */
-
-typedef struct { const uint8_t *pairs; size_t count; } countries;    /* a lone last byte is left out */
-typedef struct { countries transfer, cheque; } lists;
-
-static lists lent_lists(const uint8_t *transfer, size_t nt, const uint8_t *cheque, size_t nc)
+/* "Blank" means all spaces after replacement. */
+static bool blank(rec r, stretch s)
 {
-    return (lists){{transfer, nt / 2}, {cheque, nc / 2}};
+    return every_replaced(r, s, is_space);
 }
 
-/* Linear search. It runs to the list's end so that the compiler can compare many pairs at once. */
-static bool listed(countries list, const uint8_t *country)
+/* The stretch reads exactly as the given text, which has the width of the stretch. */
+static bool reads(rec r, stretch s, const char *text)
 {
-    uint16_t wanted, have, hits = 0;
-    memcpy(&wanted, country, 2);
-    for (size_t i = 0; i < list.count; i++) {
-        memcpy(&have, list.pairs + 2 * i, 2);
-        hits |= have == wanted;
+    for (size_t offset = s.first; offset <= s.last; offset++) {
+        char wanted = text[offset - s.first];
+        if (wanted == '\0' || byte_of(r, offset) != (uint8_t)wanted)
+            return false;
     }
-    return hits != 0;
+    return true;
 }
 
-static inline bool country_and_space(countries list, const uint8_t *r, unsigned first, unsigned last)
+/* Two records have the same bytes in the stretch. */
+static bool same(rec a, rec b, stretch s)
 {
-    return r[last] == ' ' && listed(list, r + first);
+    for (size_t offset = s.first; offset <= s.last; offset++)
+        if (byte_of(a, offset) != byte_of(b, offset))
+            return false;
+    return true;
 }
 
-/* ---- Structure: rules 1 to 5 -------------------------------------------------------------- */
-
-typedef struct { uint64_t number, record; } verdict;
-
-static verdict walk(const uint8_t *file, size_t n, uint64_t *payments)
+/* The whole number that has the digits of the stretch behind the digits of the given number. */
+static uint64_t with_digits(uint64_t number, rec r, stretch s)
 {
-    if (n > MOST_BYTES)
-        return (verdict){1, 0};
-    size_t at = 0;
-    for (uint64_t record = 0;; record++) {
-        const uint8_t *r = file + at;
-        size_t left = n - at;
-        if (left < 5)
-            return (verdict){2, record};
-        uint8_t letter = r[4];
-        bool allowed = record == 0 ? letter == 'Q'
-                     : record == 1 ? letter == 'T' : letter == 'T' || letter == 'Z';
-        if (!allowed)
-            return (verdict){4, record};
-        if (memcmp(r, letter == 'T' ? "0768" : "0256", 4) != 0)
-            return (verdict){3, record};
-        size_t length = letter == 'T' ? T_LENGTH : letter == 'Q' ? Q_LENGTH : Z_LENGTH;
-        if (left < length)
-            return (verdict){2, record};
-        at += length;
-        if (letter == 'Z') {
-            if (at < n)
-                return (verdict){5, record};
-            *payments = record - 1;
-            return (verdict){0, 0};
-        }
-    }
+    for (size_t offset = s.first; offset <= s.last; offset++)
+        number = number * 10 + (uint64_t)(byte_of(r, offset) - '0');
+    return number;
 }
 
-/* ---- Content: rules 10 to 42; each answers the first broken rule, or 0 --------------------- */
-
-static unsigned broken_in_q(const uint8_t *q)
+/* The whole number that the stretch shows; only asked where all of it are digits. */
+static uint64_t value(rec r, stretch s)
 {
-    if (!is("50400042", q, Q3)) return 10;
-    if (!all('0', q, Q4_zeros) || !digits(q, Q4_rest)) return 11;
-    if (blank(q, Q5_line1)) return 12;
-    if (!date(q, Q6)) return 13;
-    if (!digits(q, Q7) || !digits(q, Q8) || !digits(q, Q10) || !digits(q, Q11)) return 14;
-    if (!is("N", q, Q9)) return 15;
-    if (!all(' ', q, Q12)) return 16;
-    return 0;
+    return with_digits(0, r, s);
 }
 
-static unsigned broken_in_t(const uint8_t *t, const uint8_t *first_t, const lists *lent)
+/* The sum of a stretch over all T records. At most 9,999 times a value of 14 digits: less than 2^64. */
+static uint64_t sum(lent file, uint64_t payments, stretch s)
 {
-    if (!digits(t, T3) || !digits(t, T4b) || !is("EUR", t, T4a)) return 20;
-    if (!same(t, first_t, T3) || !same(t, first_t, T4b)) return 21;
-    if (!all('0', t, T5) || !all('0', t, T6) || !all('0', t, T7b) || !all(' ', t, T7a)) return 22;
-
-    bool transfer = is("00", t, T22);
-    bool cheque = is("20", t, T22) || is("22", t, T22);
-    if (!transfer && !cheque) return 23;
-    if (!is("00", t, T21) && (cheque || (!is("01", t, T21) && !is("02", t, T21)))) return 24;
-
-    if (cheque) {
-        if (!blank(t, T8) || !blank(t, T9b) || !all(' ', t, T9a)) return 25;
-    } else {
-        bool bic = bic_shape(t, T8);
-        const uint8_t *t9a = t + 64;
-        bool two_capitals = capital(t9a[0]) && capital(t9a[1]) && t9a[2] == ' ';
-        if (bic ? !all(' ', t, T9a) && !two_capitals
-                : !country_and_space(lent->transfer, t, T9a)) return 26;
-        if (!bic && blank(t, T9b)) return 27;
-    }
-    if (!country_and_space(transfer ? lent->transfer : lent->cheque, t, T10a)) return 28;
-    if (blank(t, T10b_line1)) return 29;
-    if (cheque && (blank(t, T10b_line3) || blank(t, T10b_line4))) return 29;
-    if (!all(' ', t, T11)) return 30;
-    if (transfer) {
-        if (table[t[420]] != '/' || table[t[421]] == ' ') return 31;
-    } else {
-        if (!blank(t, T12)) return 31;
-    }
-    if (!is("EUR", t, T13)) return 32;
-    if (!digits(t, T14a) || !digits(t, T14b)) return 33;
-    if (!is("0", t, T14b_last)) return 33;
-    if (all('0', t, T14a) && all('0', t, T14b_cents)) return 33;
-    if (!digits(t, T16_T19) || !digits(t, T25) || !is("00", t, T27)) return 34;
-    if (!all(' ', t, T26)) return 35;
-    return 0;
+    uint64_t total = 0;
+    for (uint64_t record = 1; record <= payments; record++)
+        total += value(numbered(file, record), s);
+    return total;
 }
 
-static unsigned broken_in_z(const uint8_t *z, uint64_t payments, uint64_t euros)
-{
-    if (!digits(z, Z3) || !digits(z, Z4) || !all(' ', z, Z5)) return 40;
-    if (value(z, Z4) != payments) return 41;
-    if (value(z, Z3) != euros) return 42;
-    return 0;
-}
+/* ---- Walk ---- */
 
+/* If refused, payments, euros and cents are 0. */
 static plain_judgement refused(uint64_t number, uint64_t record)
 {
-    return (plain_judgement){number, record, 0, 0, 0};
+    return (plain_judgement){.number = number, .record = record};
 }
 
-/* Structure over the whole file, then content record by record. */
-static plain_judgement soundness(const uint8_t *file, size_t n, const lists *lent)
+/* only Q at record 0, only T at record 1, T or Z later */
+static bool letter_allowed(uint8_t letter, uint64_t record)
 {
-    uint64_t payments = 0, euros = 0, cents = 0;
-    verdict structure = walk(file, n, &payments);
-    if (structure.number)
-        return refused(structure.number, structure.record);
+    if (record == 0)
+        return letter == 'Q';
+    if (record == 1)
+        return letter == 'T';
+    return letter == 'T' || letter == 'Z';
+}
 
-    unsigned rule = broken_in_q(file);
-    if (rule)
-        return refused(rule, 0);
+/* The walk at one record: the broken rule, or 0. */
+static uint64_t walk_record(rec r, uint64_t record)
+{
+    size_t left = r.start < r.file.n ? r.file.n - r.start : 0;
+    /* Fewer than 5 bytes left: 2. */
+    if (left < 5)
+        return 2;
+    /* Letter not allowed here: 4. */
+    uint8_t letter = letter_of(r);
+    if (!letter_allowed(letter, record))
+        return 4;
+    /* Length digits wrong for the letter: 3. */
+    if (!every(r, LENGTH, is_digit) || value(r, LENGTH) != length_for(letter))
+        return 3;
+    /* Fewer bytes left than the length: 2. */
+    if (left < length_for(letter))
+        return 2;
+    /* Bytes after Z: 5, at Z's record number. (One to four bytes too: after Z no record is due.) */
+    if (letter == 'Z' && left > length_for(letter))
+        return 5;
+    return 0;
+}
 
-    const uint8_t *first_t = file + Q_LENGTH, *t = first_t;
-    for (uint64_t record = 1; record <= payments; record++, t += T_LENGTH) {
-        rule = broken_in_t(t, first_t, lent);
-        if (rule)
-            return refused(rule, record);
-        euros += value(t, T14a);
-        cents += value(t, T14b_cents);
+/* Structure, over the whole file. If 0, the number of payments is told; euros and cents are not yet. */
+static plain_judgement walk(lent file)
+{
+    /* If the file is longer than 7,679,744 bytes, 1 at record 0, before anything else. */
+    if (file.n > LONGEST_FILE)
+        return refused(1, 0);
+    rec r = {file, 0};
+    uint64_t payments = 0;
+    /* Each turn moves on by a record's length, and with fewer than 5 bytes left it ends by 2. */
+    for (uint64_t record = 0; ; record++) {
+        uint64_t number = walk_record(r, record);
+        if (number != 0)
+            return refused(number, record);
+        if (letter_of(r) == 'Z')
+            return (plain_judgement){.payments = payments};
+        if (letter_of(r) == 'T')
+            payments++;
+        r.start += length_for(letter_of(r));
     }
-    rule = broken_in_z(t, payments, euros);
-    if (rule)
-        return refused(rule, payments + 1);
-    return (plain_judgement){0, 0, payments, euros, cents};
 }
 
-/* ---- Judge -------------------------------------------------------------------------------- */
+/* ---- Rules of the Q record ---- */
 
-plain_judgement plain_judge_full(const uint8_t *file, size_t n,
-                                 const uint8_t *transfer, size_t nt, const uint8_t *cheque, size_t nc,
-                                 const uint64_t *taken, size_t taken_n)
+static uint64_t days_of_month(uint64_t year, uint64_t month)
 {
-    lists lent = lent_lists(transfer, nt, cheque, nc);
-    plain_judgement j = soundness(file, n, &lent);
-    if (j.number)
-        return j;
-    uint64_t number = (value(file, Q4) * 1000000 + value(file, Q6)) * 100 + value(file, Q7);
-    for (size_t i = 0; i < taken_n; i++)
-        if (taken[i] == number)
-            return refused(50, 0);
-    return j;
-}
-
-uint64_t plain_judge(const uint8_t *file, size_t n,
-                     const uint8_t *transfer, size_t nt, const uint8_t *cheque, size_t nc)
-{
-    lists lent = lent_lists(transfer, nt, cheque, nc);
-    plain_judgement j = soundness(file, n, &lent);
-    return j.record * 100 + j.number;
-}
-
-/* ---- Prepare ------------------------------------------------------------------------------ */
-
-/* Counts the bytes with table[b] != b. The unchanged ones are told by range, not by lookup, so that
-   the compiler takes many at once; a field has at most 140 bytes, so a byte counts them. */
-static inline size_t changes_in(const uint8_t *r, unsigned first, unsigned last)
-{
-    uint8_t unchanged = 0;
-    for (unsigned i = first; i <= last; i++) {
-        unchanged += (uint8_t)(r[i] - '+') <= '9' - '+';                /* + , - . / and digits */
-        unchanged += (uint8_t)((r[i] | 0x20) - 'a') <= 'z' - 'a';       /* small letters and capitals */
-        unchanged += r[i] == ' ';
-        unchanged += r[i] == '%';
+    switch (month) {
+    case 4: case 6: case 9: case 11:
+        return 30;
+    case 2:
+        return year % 4 == 0 ? 29 : 28;     /* true of 2000 to 2099, 2000 being a leap year */
+    default:
+        return 31;
     }
-    return last - first + 1u - unchanged;
 }
 
-static size_t changes_in_file(const uint8_t *file, uint64_t payments)
+/* a date YYMMDD (years 2000 to 2099) */
+static bool is_date(rec r, stretch s)
 {
-    size_t changes = changes_in(file, Q5);
-    const uint8_t *t = file + Q_LENGTH;
-    for (uint64_t record = 1; record <= payments; record++, t += T_LENGTH)
-        changes += changes_in(t, T8) + changes_in(t, T9b) + changes_in(t, T10b) + changes_in(t, T12)
-                 + changes_in(t, T15) + changes_in(t, T20) + changes_in(t, T23) + changes_in(t, T24);
-    return changes;
-}
-
-/* Replaces one text field of the output, whose record begins at that place; answers the place for
-   the next note. */
-static inline uint32_t *replace(uint32_t *note, uint8_t *out, size_t record_at, unsigned first, unsigned last)
-{
-    uint8_t *r = out + record_at;
-    if (changes_in(r, first, last) == 0)
-        return note;
-    for (unsigned i = first; i <= last; i++) {
-        uint8_t b = r[i];
-        if (table[b] != b) {
-            r[i] = table[b];
-            *note++ = (uint32_t)((record_at + i) * 256 + b);
-        }
-    }
-    return note;
-}
-
-plain_prepared plain_prepare(const uint8_t *file, size_t n,
-                             const uint8_t *transfer, size_t nt, const uint8_t *cheque, size_t nc,
-                             uint8_t *out, size_t out_n, uint32_t *notes, size_t notes_n)
-{
-    lists lent = lent_lists(transfer, nt, cheque, nc);
-    plain_judgement j = soundness(file, n, &lent);
-    if (j.number)
-        return (plain_prepared){j.number, j.record, 0};
-    if (out_n < n)
-        return (plain_prepared){60, 0, 0};
-    size_t changes = changes_in_file(file, j.payments);
-    if (changes > notes_n)
-        return (plain_prepared){61, 0, 0};
-
-    memcpy(out, file, n);
-    uint32_t *note = replace(notes, out, 0, Q5);
-    for (size_t at = Q_LENGTH; note < notes + changes; at += T_LENGTH) {
-        note = replace(note, out, at, T8);
-        note = replace(note, out, at, T9b);
-        note = replace(note, out, at, T10b);
-        note = replace(note, out, at, T12);
-        note = replace(note, out, at, T15);
-        note = replace(note, out, at, T20);
-        note = replace(note, out, at, T23);
-        note = replace(note, out, at, T24);
-    }
-    return (plain_prepared){0, 0, changes};
-}
-
-/* ---- Restore ------------------------------------------------------------------------------ */
-
-static bool in_text_field(uint64_t at, size_t n)
-{
-    if (at < Q_LENGTH)
-        return at >= text_field[1].first && at <= text_field[1].last;
-    if (at >= n - Z_LENGTH)
+    if (!every(r, s, is_digit))
         return false;
-    unsigned i = (unsigned)((at - Q_LENGTH) % T_LENGTH);
-    for (unsigned f = 2; f <= 9; f++)
-        if (i >= text_field[f].first && i <= text_field[f].last)
+    uint64_t year = 2000 + value(r, part(s, 0, 1));
+    uint64_t month = value(r, part(s, 2, 3));
+    uint64_t day = value(r, part(s, 4, 5));
+    return month >= 1 && month <= 12 && day >= 1 && day <= days_of_month(year, month);
+}
+
+static uint64_t q_rules(rec q)
+{
+    /* 10: Q3 is not 50400042 */
+    if (!reads(q, Q3, "50400042"))
+        return 10;
+    /* 11: Q4 is not eight zeros and two digits */
+    if (!every(q, part(Q4, 0, 7), is_zero) || !every(q, part(Q4, 8, 9), is_digit))
+        return 11;
+    /* 12: first line of Q5 blank */
+    if (blank(q, line(Q5, 1)))
+        return 12;
+    /* 13: Q6 is no date YYMMDD (years 2000 to 2099) */
+    if (!is_date(q, Q6))
+        return 13;
+    /* 14: a non-digit in Q7, Q8, Q10 or Q11 */
+    if (!every(q, Q7, is_digit) || !every(q, Q8, is_digit) || !every(q, Q10, is_digit) || !every(q, Q11, is_digit))
+        return 14;
+    /* 15: Q9 is not N */
+    if (!reads(q, Q9, "N"))
+        return 15;
+    /* 16: Q12 not all spaces */
+    if (!every(q, Q12, is_space))
+        return 16;
+    return 0;
+}
+
+/* ---- Rules of a T record ---- */
+
+/* The lent country lists: Annex II (transfers) and Annex I (cheques) in the program. */
+typedef struct { lent transfer, cheque; } country_lists;
+
+/* T22: 00 (transfer), 20 or 22 (cheques) */
+static bool is_transfer(rec t) { return reads(t, T22, "00"); }
+static bool is_cheque(rec t)   { return reads(t, T22, "20") || reads(t, T22, "22"); }
+
+/* BIC shape: four capitals, two capitals, two capitals or digits, then three spaces or three capitals or digits. */
+static bool has_bic_shape(rec t)
+{
+    return every_replaced(t, part(T8, 0, 3), is_capital)
+        && every_replaced(t, part(T8, 4, 5), is_capital)
+        && every_replaced(t, part(T8, 6, 7), is_capital_or_digit)
+        && (every_replaced(t, part(T8, 8, 10), is_space) || every_replaced(t, part(T8, 8, 10), is_capital_or_digit));
+}
+
+/* Two bytes a country, a lone last byte ignored, any content allowed. */
+static bool listed(lent list, uint8_t first, uint8_t second)
+{
+    for (size_t country = 0; country < list.n / 2; country++)
+        if (byte_at(list, 2 * country) == first && byte_at(list, 2 * country + 1) == second)
             return true;
     return false;
 }
 
-/* The pair comes from a sound file just when the forwarded file is sound and has nothing left to
-   replace, and the notes rise, each in a text field, each of a byte that is changed into the
-   forwarded one. Soundness reads replaced characters: it is the same before and after. */
-plain_restored plain_restore(const uint8_t *forwarded, size_t n, const uint32_t *notes, size_t notes_n,
-                             const uint8_t *transfer, size_t nt, const uint8_t *cheque, size_t nc,
-                             uint8_t *out, size_t out_n)
+/* The field of three bytes is a country of the list and a space. */
+static bool listed_and_space(rec t, stretch s, lent list)
 {
-    const plain_restored no_such_file = {70, 0};
-    if (out_n < n)
-        return (plain_restored){60, 0};
-    lists lent = lent_lists(transfer, nt, cheque, nc);
-    plain_judgement j = soundness(forwarded, n, &lent);
-    if (j.number || changes_in_file(forwarded, j.payments) != 0)
-        return no_such_file;
-
-    uint32_t lowest = 0;
-    for (size_t i = 0; i < notes_n; i++) {
-        uint32_t at = notes[i] / 256;
-        uint8_t original = (uint8_t)(notes[i] % 256);
-        if (at < lowest || !in_text_field(at, n))
-            return no_such_file;
-        if (table[original] == original || table[original] != forwarded[at])
-            return no_such_file;
-        lowest = at + 1;
-    }
-    memcpy(out, forwarded, n);
-    for (size_t i = 0; i < notes_n; i++)
-        out[notes[i] / 256] = (uint8_t)(notes[i] % 256);
-    return (plain_restored){0, 0};
+    return listed(list, byte_of(t, s.first), byte_of(t, s.first + 1)) && is_space(byte_of(t, s.last));
 }
 
-/* ---- Show a field ------------------------------------------------------------------------- */
+/* T9a for a transfer: with a BIC shape in T8, three spaces or two capitals and a space; without it, a country of the
+   transfer list and a space. */
+static bool transfer_t9a_right(rec t, lent transfer)
+{
+    if (!has_bic_shape(t))
+        return listed_and_space(t, T9a, transfer);
+    return every(t, T9a, is_space) || (every(t, part(T9a, 0, 1), is_capital) && is_space(byte_of(t, T9a.last)));
+}
+
+/* T12 begins with / and a non-space (T12 is a text field: the replaced characters are read). */
+static bool begins_with_slash_and_non_space(rec t, stretch s)
+{
+    return replaced(byte_of(t, s.first)) == '/' && !is_space(replaced(byte_of(t, s.first + 1)));
+}
+
+static uint64_t t_rules_20_to_24(rec t, rec record_1)
+{
+    /* 20: a non-digit in T3 or T4b, or T4a not EUR */
+    if (!every(t, T3, is_digit) || !every(t, T4b, is_digit) || !reads(t, T4a, "EUR"))
+        return 20;
+    /* 21: T3 or T4b differs from record 1 */
+    if (!same(t, record_1, T3) || !same(t, record_1, T4b))
+        return 21;
+    /* 22: T5, T6 or T7b not all zeros, or T7a not spaces */
+    if (!every(t, T5, is_zero) || !every(t, T6, is_zero) || !every(t, T7b, is_zero) || !every(t, T7a, is_space))
+        return 22;
+    /* 23: T22 is not 00 (transfer), 20 or 22 (cheques) */
+    if (!is_transfer(t) && !is_cheque(t))
+        return 23;
+    /* 24: T21 not 00, 01 or 02; for a cheque, not 00 */
+    if (!reads(t, T21, "00") && !reads(t, T21, "01") && !reads(t, T21, "02"))
+        return 24;
+    if (is_cheque(t) && !reads(t, T21, "00"))
+        return 24;
+    return 0;
+}
+
+static uint64_t t_rules_25_to_29(rec t, country_lists lists)
+{
+    /* 25: cheque: T8 or T9b not blank, or T9a not spaces */
+    if (is_cheque(t) && (!blank(t, T8) || !blank(t, T9b) || !every(t, T9a, is_space)))
+        return 25;
+    /* 26: transfer: T9a wrong */
+    if (is_transfer(t) && !transfer_t9a_right(t, lists.transfer))
+        return 26;
+    /* 27: transfer: T8 has no BIC shape and T9b is blank */
+    if (is_transfer(t) && !has_bic_shape(t) && blank(t, T9b))
+        return 27;
+    /* 28: T10a not a listed country (transfer list or cheque list, by T22) and a space */
+    if (!listed_and_space(t, T10a, is_cheque(t) ? lists.cheque : lists.transfer))
+        return 28;
+    /* 29: first line of T10b blank; for a cheque, also line 3 or line 4 blank */
+    if (blank(t, line(T10b, 1)))
+        return 29;
+    if (is_cheque(t) && (blank(t, line(T10b, 3)) || blank(t, line(T10b, 4))))
+        return 29;
+    return 0;
+}
+
+static uint64_t t_rules_30_to_35(rec t)
+{
+    /* 30: T11 not all spaces */
+    if (!every(t, T11, is_space))
+        return 30;
+    /* 31: transfer: T12 does not begin with / and a non-space; cheque: T12 not blank */
+    if (is_transfer(t) && !begins_with_slash_and_non_space(t, T12))
+        return 31;
+    if (is_cheque(t) && !blank(t, T12))
+        return 31;
+    /* 32: T13 not EUR */
+    if (!reads(t, T13, "EUR"))
+        return 32;
+    /* 33: a non-digit in T14a or T14b, last digit of T14b not 0, */
+    if (!every(t, T14a, is_digit) || !every(t, T14b, is_digit) || !is_zero(byte_of(t, T14b.last)))
+        return 33;
+    /* or amount zero (T14a and the first two digits of T14b all zeros) */
+    if (every(t, T14a, is_zero) && every(t, part(T14b, 0, 1), is_zero))
+        return 33;
+    /* 34: a non-digit in T16 to T19 or T25, or T27 not 00 */
+    if (!every(t, T16_to_T19, is_digit) || !every(t, T25, is_digit) || !reads(t, T27, "00"))
+        return 34;
+    /* 35: T26 not all spaces */
+    if (!every(t, T26, is_space))
+        return 35;
+    return 0;
+}
+
+/* In rising rule number within a record. */
+static uint64_t t_rules(rec t, rec record_1, country_lists lists)
+{
+    uint64_t number = t_rules_20_to_24(t, record_1);
+    if (number == 0)
+        number = t_rules_25_to_29(t, lists);
+    if (number == 0)
+        number = t_rules_30_to_35(t);
+    return number;
+}
+
+/* ---- Rules of the Z record ---- */
+
+static uint64_t z_rules(rec z, uint64_t payments)
+{
+    /* 40: a non-digit in Z3 or Z4, or Z5 not all spaces */
+    if (!every(z, Z3, is_digit) || !every(z, Z4, is_digit) || !every(z, Z5, is_space))
+        return 40;
+    /* 41: Z4 is not the number of T records */
+    if (value(z, Z4) != payments)
+        return 41;
+    /* 42: Z3 is not the sum of all T14a (whole euros, no cents) */
+    if (value(z, Z3) != sum(z.file, payments, T14a))
+        return 42;
+    return 0;
+}
+
+/* ---- Soundness ---- */
+
+/* Content, record by record. The first broken rule ends the judgement there. */
+static plain_judgement content(lent file, uint64_t payments, country_lists lists)
+{
+    uint64_t number = q_rules(numbered(file, 0));
+    if (number != 0)
+        return refused(number, 0);
+    for (uint64_t record = 1; record <= payments; record++) {
+        number = t_rules(numbered(file, record), numbered(file, 1), lists);
+        if (number != 0)
+            return refused(number, record);
+    }
+    number = z_rules(numbered(file, payments + 1), payments);
+    if (number != 0)
+        return refused(number, payments + 1);
+    /* If 0, record 0, the number of payments, the euro sum of T14a and the cent sum (first two digits of T14b, added,
+       not carried into euros). */
+    uint64_t euros = sum(file, payments, T14a);
+    uint64_t cents = sum(file, payments, part(T14b, 0, 1));
+    return (plain_judgement){.number = 0, .record = 0, .payments = payments, .euros = euros, .cents = cents};
+}
+
+/* 0 means sound: none of rules 1 to 5 and 10 to 42 is broken. Structure is walked first over the whole file. */
+static plain_judgement soundness(lent file, country_lists lists)
+{
+    plain_judgement walked = walk(file);
+    if (walked.number != 0)
+        return walked;
+    return content(file, walked.payments, lists);
+}
+
+static country_lists lists_of(const uint8_t *transfer, size_t nt, const uint8_t *cheque, size_t nc)
+{
+    return (country_lists){.transfer = {transfer, nt}, .cheque = {cheque, nc}};
+}
+
+/* ---- Judge ---- */
+
+/* A file's number is the 18 digits of Q4, Q6, Q7 as one whole number. */
+static uint64_t file_number(lent file)
+{
+    rec q = numbered(file, 0);
+    return with_digits(with_digits(value(q, Q4), q, Q6), q, Q7);
+}
+
+static bool is_taken(uint64_t number, const uint64_t *taken, size_t taken_n)
+{
+    for (size_t i = 0; i < taken_n; i++)
+        if (taken[i] == number)
+            return true;
+    return false;
+}
+
+plain_judgement plain_judge_full(const uint8_t *file, size_t n,
+                               const uint8_t *transfer, size_t nt, const uint8_t *cheque, size_t nc,
+                               const uint64_t *taken, size_t taken_n)
+{
+    lent f = {file, n};
+    plain_judgement judgement = soundness(f, lists_of(transfer, nt, cheque, nc));
+    /* Rule 50 belongs to the judge alone and comes after all others. For 50, the record is 0. */
+    if (judgement.number == 0 && is_taken(file_number(f), taken, taken_n))
+        return refused(50, 0);
+    return judgement;
+}
+
+uint64_t plain_judge(const uint8_t *file, size_t n,
+                    const uint8_t *transfer, size_t nt, const uint8_t *cheque, size_t nc)
+{
+    plain_judgement judgement = plain_judge_full(file, n, transfer, nt, cheque, nc, NULL, 0);
+    return judgement.record * 100 + judgement.number;
+}
+
+/* ---- Prepare ---- */
+
+/* Each text field is replaced within its own stretch of the output. A note is place in the file * 256 + original byte.
+   count is the number of changes before this field; the answer is the number after it. What has no room is counted
+   and not written. */
+static size_t change_field(rec r, stretch s, room out, note_room notes, size_t count)
+{
+    for (size_t offset = s.first; offset <= s.last; offset++) {
+        uint8_t byte = byte_of(r, offset);
+        if (replaced(byte) != byte) {
+            size_t place = r.start + offset;
+            put(out, place, replaced(byte));
+            put_note(notes, count, (uint32_t)(place * 256 + byte));
+            count++;
+        }
+    }
+    return count;
+}
+
+/* Goes over all text fields of a sound file and answers the number of changes; with no room it only counts. */
+static size_t change_file(lent file, uint64_t payments, room out, note_room notes)
+{
+    size_t count = 0;
+    for (uint64_t record = 0; record <= payments; record++) {
+        rec r = numbered(file, record);
+        for (size_t i = 0; i < TEXT_FIELDS; i++)
+            if (TEXT_FIELD[i].letter == letter_of(r))
+                count = change_field(r, *TEXT_FIELD[i].place, out, notes, count);
+    }
+    return count;
+}
+
+static void copy(lent from, room to)
+{
+    for (size_t place = 0; place < from.n; place++)
+        put(to, place, byte_at(from, place));
+}
+
+/* Reads soundness, then 60, then 61, each only in that case; record 0 for both and for success. */
+static plain_prepared prepare(lent file, country_lists lists, room out, note_room notes)
+{
+    plain_judgement judgement = soundness(file, lists);
+    if (judgement.number != 0)
+        return (plain_prepared){.number = judgement.number, .record = judgement.record};
+    /* 60: output room shorter than the file */
+    if (out.n < file.n)
+        return (plain_prepared){.number = 60};
+    /* 61: more changes than note places lent */
+    size_t changes = change_file(file, judgement.payments, (room){NULL, 0}, (note_room){NULL, 0});
+    if (changes > notes.n)
+        return (plain_prepared){.number = 61};
+    copy(file, out);
+    change_file(file, judgement.payments, out, notes);
+    return (plain_prepared){.number = 0, .record = 0, .notes = changes};
+}
+
+plain_prepared plain_prepare(const uint8_t *file, size_t n,
+                           const uint8_t *transfer, size_t nt, const uint8_t *cheque, size_t nc,
+                           uint8_t *out, size_t out_n, uint32_t *notes, size_t notes_n)
+{
+    return prepare((lent){file, n}, lists_of(transfer, nt, cheque, nc),
+                   (room){out, out_n}, (note_room){notes, notes_n});
+}
+
+/* ---- Restore ---- */
+
+/* The most notes: 140 bytes of text in Q, and 553 in each T (11 + 140 + 140 + 35 + 140 + 25 + 27 + 35). */
+enum { MOST_NOTES = 140 + 553 * MOST_PAYMENTS };
+
+/* Memory of its own: the original rebuilt, and the pair made anew from it. */
+static uint8_t own_original[LONGEST_FILE];
+static uint8_t own_forwarded[LONGEST_FILE];
+static uint32_t own_notes[MOST_NOTES];
+
+/* Puts each noted byte back at its place; false when a place is outside the file. All lent notes count. */
+static bool rebuild(lent forwarded, lent_notes notes, room original)
+{
+    copy(forwarded, original);
+    for (size_t i = 0; i < notes.n; i++) {
+        uint32_t note = note_at(notes, i);
+        if (note / 256 >= forwarded.n)
+            return false;
+        put(original, note / 256, (uint8_t)(note % 256));
+    }
+    return true;
+}
+
+static bool equal_files(lent a, lent b)
+{
+    if (a.n != b.n)
+        return false;
+    for (size_t place = 0; place < a.n; place++)
+        if (byte_at(a, place) != byte_at(b, place))
+            return false;
+    return true;
+}
+
+static bool equal_notes(lent_notes a, lent_notes b)
+{
+    if (a.n != b.n)
+        return false;
+    for (size_t i = 0; i < a.n; i++)
+        if (note_at(a, i) != note_at(b, i))
+            return false;
+    return true;
+}
+
+static size_t lesser(size_t a, size_t b)
+{
+    return a < b ? a : b;
+}
+
+/* The original, judged and prepared anew, yields this very pair, byte for byte and number by number. */
+static bool yields(lent original, country_lists lists, lent forwarded, lent_notes notes)
+{
+    plain_prepared anew = prepare(original, lists, (room){own_forwarded, LONGEST_FILE},
+                                  (note_room){own_notes, MOST_NOTES});
+    /* Refused is unsound, for its own memory has room enough. */
+    if (anew.number != 0)
+        return false;
+    return equal_files((lent){own_forwarded, lesser(original.n, LONGEST_FILE)}, forwarded)
+        && equal_notes((lent_notes){own_notes, lesser(anew.notes, MOST_NOTES)}, notes);
+}
+
+/* 60 first, then 70, record 0 for both. */
+static plain_restored restore(lent forwarded, lent_notes notes, country_lists lists, room out)
+{
+    /* 60: output room shorter than the file */
+    if (out.n < forwarded.n)
+        return (plain_restored){.number = 60};
+    /* 70: no sound file yields this pair. None is longer than the longest file; */
+    if (forwarded.n > LONGEST_FILE)
+        return (plain_restored){.number = 70};
+    /* none has a note of a place outside itself; */
+    if (!rebuild(forwarded, notes, (room){own_original, LONGEST_FILE}))
+        return (plain_restored){.number = 70};
+    /* and prepare changes the noted bytes alone, so the file with those put back is the only one to try. */
+    lent original = {own_original, lesser(forwarded.n, LONGEST_FILE)};
+    if (!yields(original, lists, forwarded, notes))
+        return (plain_restored){.number = 70};
+    /* If 0, the output begins with the original, the rest of it keeps its bytes. */
+    copy(original, out);
+    return (plain_restored){.number = 0, .record = 0};
+}
+
+plain_restored plain_restore(const uint8_t *forwarded, size_t n, const uint32_t *notes, size_t notes_n,
+                           const uint8_t *transfer, size_t nt, const uint8_t *cheque, size_t nc,
+                           uint8_t *out, size_t out_n)
+{
+    return restore((lent){forwarded, n}, (lent_notes){notes, notes_n}, lists_of(transfer, nt, cheque, nc),
+                   (room){out, out_n});
+}
+
+/* ---- Show a field ---- */
 
 plain_part plain_show(const uint8_t *file, size_t n, uint64_t record, uint64_t field)
 {
-    const plain_part none = {0, 0};
-    uint64_t payments = 0;
-    if (walk(file, n, &payments).number || record > payments)
-        return none;
-    if (record == 0 ? field != 1 : field < 2 || field > 9)
-        return none;
-    uint64_t record_at = record == 0 ? 0 : Q_LENGTH + (record - 1) * T_LENGTH;
-    place f = text_field[field];
-    return (plain_part){record_at + f.first, f.last - f.first + 1};
+    const plain_part empty = {0, 0};
+    lent f = {file, n};
+    plain_judgement walked = walk(f);
+    /* The part is empty exactly when the walk refuses, */
+    if (walked.number != 0)
+        return empty;
+    /* the record doesn't exist (Z, the last, stands behind the payments), */
+    if (record > walked.payments + 1)
+        return empty;
+    rec r = numbered(f, record);
+    for (size_t i = 0; i < TEXT_FIELDS; i++)
+        if (TEXT_FIELD[i].number == field && TEXT_FIELD[i].letter == letter_of(r))
+            return (plain_part){r.start + TEXT_FIELD[i].place->first, width(*TEXT_FIELD[i].place)};
+    /* or that record has no such field. */
+    return empty;
 }

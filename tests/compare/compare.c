@@ -1,0 +1,120 @@
+/* Compares the desk's five calls with an independent implementation, answer by answer and byte by byte, and holds both to
+   what document 01 asks for.
+
+   compare [--seed N] [--calls N]
+       The fixed part, some 2.3 million calls; then random files, until N calls more are made.
+   compare --seconds N [--seed N]
+       Random files alone, for that many seconds.
+   compare --replay FILE
+       Runs one kept case again, and checks again what was due of it. */
+
+#include <inttypes.h>
+#include <stdio.h>
+#include <stdlib.h>
+#include <string.h>
+#include <time.h>
+
+#include "drafts.h"
+#include "suites.h"
+
+static void fixed_part(void)
+{
+    use_annexes();
+    named_cases();
+    each_length();
+    each_room_and_pair();
+    each_rule_alone();
+    each_pair_of_rules();
+    sweep();
+    use_annexes();
+    long_files();
+}
+
+/* A draft whose first broken rule, if any, is not known. */
+static void unknown_file(void)
+{
+    switch (below(3)) {
+    case 0: break_rules_at_random(); break;
+    case 1: spoil_structure(); break;
+    default:
+        for (size_t k = 1 + below(4); k > 0; k--)
+            spoil_any_byte();
+    }
+}
+
+static void every_call(bool sound)
+{
+    shift_file(one_in(4) ? below(16) : 0);
+    lend_draft();
+    random_taken_numbers(sound);
+    random_parts();
+    if (draft_n < 512) {
+        size_t room = one_in(2) ? draft_n : below(draft_n + 50), places = below(100);
+        prepare(room, places);
+        lend(NOTES_IN, NULL, 0);
+        restore(room);
+    } else {
+        prepare_pair(sound);
+        for (int k = 0; k < 5 && have_pair(); k++) {
+            random_rooms();
+            random_change();
+        }
+    }
+    shift_file(0);
+}
+
+static void random_case(void)
+{
+    use_annexes();
+    want_wrong_countries(false);
+    if (one_in(4)) {
+        random_rule_alone();
+        random_pair_of_rules();
+        return;
+    }
+    if (one_in(3)) {
+        use_random_lists();
+        want_wrong_countries(one_in(2));
+    }
+    size_t count = one_in(20) ? 5 + below(20) : 1 + below(4);
+    bool sound = random_file(count, NULL, (int)below(3));
+    if (one_in(2)) {
+        unknown_file();
+        sound = false;
+    }
+    every_call(sound);
+}
+
+static int usage(void)
+{
+    fprintf(stderr, "usage: compare [--seed N] [--calls N] | compare --seconds N [--seed N] | compare --replay FILE\n");
+    return 2;
+}
+
+int main(int argc, char **argv)
+{
+    char cases[80];
+    const char *kept = NULL;
+    uint64_t seed = 1, calls = 100000, seconds = 0;
+    for (int i = 1; i + 1 < argc; i += 2)
+        if (strcmp(argv[i], "--seed") == 0) seed = strtoull(argv[i + 1], NULL, 0);
+        else if (strcmp(argv[i], "--calls") == 0) calls = strtoull(argv[i + 1], NULL, 0);
+        else if (strcmp(argv[i], "--seconds") == 0) seconds = strtoull(argv[i + 1], NULL, 0);
+        else if (strcmp(argv[i], "--replay") == 0) kept = argv[i + 1];
+        else return usage();
+    if (argc % 2 == 0)
+        return usage();
+    snprintf(cases, sizeof cases, "target/tests/case-%" PRIu64 "-", seed);
+    open_areas(kept ? NULL : cases);
+    if (kept)
+        return replay(kept);
+    begin_chance(seed);
+    if (seconds == 0)
+        fixed_part();
+    time_t end = time(NULL) + (time_t)seconds;
+    calls += calls_made();
+    while (seconds ? time(NULL) < end : calls_made() < calls)
+        random_case();
+    printf("%" PRIu64 " calls compared, 0 differ\n", calls_made());
+    return 0;
+}

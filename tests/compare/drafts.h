@@ -1,0 +1,46 @@
+/* Drafts of files: country lists, odd characters, and random sound files that use both. */
+#ifndef DRAFTS_H
+#define DRAFTS_H
+
+#include <stdbool.h>
+#include <stddef.h>
+#include <stdint.h>
+
+#include "../sample.h"
+#include "chance.h"
+#include "lent.h"
+#include "paper.h"
+
+/* ---- Lists, which are lent to the following calls ------------------------------------------ */
+
+void use_lists(const void *transfer, size_t nt, const void *cheque, size_t nc);
+void use_annexes(void);
+void use_random_lists(void);
+void lend_taken(const uint64_t *numbers, size_t n);
+
+/* Where wrong ones are wanted, a draft has now and then a country that is not listed. */
+void want_wrong_countries(bool wanted);
+
+/* ---- Characters ---------------------------------------------------------------------------- */
+
+extern const char not_blank[];                      /* the characters that do not become spaces */
+enum { NOT_BLANK = 74 };
+uint8_t filled_byte(void);
+uint8_t blank_byte(void);                           /* becomes a space */
+uint8_t changed_into(uint8_t r);                    /* a byte that becomes this one; itself if there is none */
+
+/* ---- The draft ----------------------------------------------------------------------------- */
+
+extern uint8_t draft[MOST_FILE + SPARE];
+extern size_t draft_n, payments;
+
+uint8_t *record_of(size_t r);
+void lend_draft(void);
+uint64_t file_number(void);
+void spoil_any_byte(void);
+
+/* A draft of the given payments; kinds may be left to chance. mode: 0 plain capitals, 1 mixed, 2 all bytes, 3 only bytes
+   that become spaces. Answers whether it is sound: it is not where no country is listed, or wrong ones are wanted. */
+bool random_file(size_t count, const payment_kind *kinds, int mode);
+
+#endif

@@ -1,0 +1,448 @@
+#define _GNU_SOURCE
+#include "lent.h"
+
+#include <inttypes.h>
+#include <signal.h>
+#include <stdio.h>
+#include <stdlib.h>
+#include <string.h>
+#include <sys/mman.h>
+#include <unistd.h>
+
+#include "../plain.h"
+#include "../sample.h"
+#include "desk.h"
+#include "paper.h"
+
+/* ---- Lent memory -------------------------------------------------------------------------- */
+
+enum { APRON = 64 };                                /* watched bytes before an output */
+enum { DESK, PLAIN, SIDES };
+enum { ANSWER_DUE = LENT, OUTPUT_DUE, NOTES_DUE, STRETCHES };
+
+typedef struct { uint8_t *write, *lent; } area;     /* both are the end of the memory */
+
+static const size_t most_bytes[STRETCHES] = {
+    MOST_FILE + SPARE, SPARE, SPARE, SPARE, 4 * MOST_NOTES + SPARE, SPARE, MOST_FILE + SPARE, 4 * MOST_NOTES + SPARE
+};
+static area stretch[STRETCHES], output[SIDES], note_places[SIDES];
+static uint8_t pattern[4 * MOST_NOTES + SPARE];     /* what outputs hold before a call */
+
+static void *mapped(void *p)
+{
+    if (p != MAP_FAILED)
+        return p;
+    perror("memory");
+    exit(2);
+}
+
+static area make_area(size_t bytes, bool read_only)
+{
+    size_t page = (size_t)sysconf(_SC_PAGESIZE);
+    bytes = (bytes + page - 1) / page * page;
+    int fd = memfd_create("lent", 0);
+    if (fd < 0 || ftruncate(fd, (off_t)bytes) != 0) {
+        perror("memory");
+        exit(2);
+    }
+    uint8_t *place = mapped(mmap(NULL, bytes + page, PROT_NONE, MAP_PRIVATE | MAP_ANONYMOUS, -1, 0));
+    mapped(mmap(place, bytes, read_only ? PROT_READ : PROT_READ | PROT_WRITE, MAP_SHARED | MAP_FIXED, fd, 0));
+    uint8_t *write = read_only ? mapped(mmap(NULL, bytes, PROT_READ | PROT_WRITE, MAP_SHARED, fd, 0)) : place;
+    close(fd);
+    return (area){write + bytes, place + bytes};
+}
+
+/* ---- One request -------------------------------------------------------------------------- */
+
+static const char *const call_name[CALLS] = {"judge", "judge_full", "prepare", "restore", "show"};
+static const char *const stretch_name[STRETCHES] = {
+    "file", "transfer", "cheque", "taken", "notes", "answer-due", "output-due", "notes-due"
+};
+enum { NUMBERS = 5 };
+static const char *const answer_name[CALLS][NUMBERS] = {
+    {"code"}, {"number", "record", "payments", "euros", "cents"}, {"number", "record", "notes"},
+    {"number", "record"}, {"start", "length"}
+};
+
+typedef struct {
+    int call;
+    size_t room, places;                            /* room in bytes, places in notes */
+    uint64_t record, field;
+    size_t shift;                                   /* bytes between the file and the closed page */
+    size_t size[STRETCHES];                         /* bytes */
+} request;
+
+static request now;
+static uint64_t calls = 0;
+static uint64_t answer[SIDES][NUMBERS];
+static volatile int running = -1;                   /* the side that is at work */
+static int lost = -1;                               /* a side that did not come back */
+static const char *kept_name = NULL;                /* where cases are kept; nowhere if null */
+
+static size_t back(int which) { return now.size[which] + (which == FILE_IN ? now.shift : 0); }
+static const void *lent(int which) { return stretch[which].lent - back(which); }
+static uint8_t *out_of(int side) { return output[side].lent - now.room; }
+static uint32_t *notes_of(int side) { return (uint32_t *)(void *)(note_places[side].lent - 4 * now.places); }
+
+void lend(int which, const void *bytes, size_t n)
+{
+    if (n + now.shift > most_bytes[which]) {
+        fprintf(stderr, "%s of %zu bytes: more than there is room for\n", stretch_name[which], n);
+        exit(2);
+    }
+    now.size[which] = n;
+    if (n)
+        memcpy(stretch[which].write - back(which), bytes, n);
+}
+
+uint8_t *lent_file(size_t at) { return stretch[FILE_IN].write - back(FILE_IN) + at; }
+void shift_file(size_t bytes) { now.shift = bytes; }
+void due_numbers(const uint64_t *numbers, size_t n) { lend(ANSWER_DUE, numbers, 8 * n); }
+void due_output(const uint8_t *bytes, size_t n) { lend(OUTPUT_DUE, bytes, n); }
+void due_notes(const uint32_t *notes, size_t n) { lend(NOTES_DUE, notes, 4 * n); }
+
+static void fill_outputs(int side)
+{
+    memcpy(out_of(side) - APRON, pattern, APRON + now.room);
+    memcpy((uint8_t *)notes_of(side) - APRON, pattern, APRON + 4 * now.places);
+}
+
+typedef uint64_t desk_code, plain_code;
+
+#define ASK(name, shape, ...)                                                                \
+    do {                                                                                     \
+        if (side == DESK) { desk_##shape x = desk_##name(__VA_ARGS__); memcpy(a, &x, sizeof x); } \
+        else { plain_##shape x = plain_##name(__VA_ARGS__); memcpy(a, &x, sizeof x); }       \
+    } while (0)
+
+static void ask(int side)
+{
+    uint64_t *a = answer[side];
+    const uint8_t *file = lent(FILE_IN), *transfer = lent(TRANSFER), *cheque = lent(CHEQUE_LIST);
+    size_t n = now.size[FILE_IN], nt = now.size[TRANSFER], nc = now.size[CHEQUE_LIST];
+    memset(a, 0, sizeof answer[side]);
+    running = side;
+    switch (now.call) {
+    case JUDGE:
+        ASK(judge, code, file, n, transfer, nt, cheque, nc);
+        break;
+    case JUDGE_FULL:
+        ASK(judge_full, judgement, file, n, transfer, nt, cheque, nc, lent(TAKEN), now.size[TAKEN] / 8);
+        break;
+    case PREPARE:
+        ASK(prepare, prepared, file, n, transfer, nt, cheque, nc, out_of(side), now.room,
+            notes_of(side), now.places);
+        break;
+    case RESTORE:
+        ASK(restore, restored, file, n, lent(NOTES_IN), now.size[NOTES_IN] / 4, transfer, nt, cheque, nc,
+            out_of(side), now.room);
+        break;
+    case SHOW:
+        ASK(show, part, file, n, now.record, now.field);
+        break;
+    }
+    running = -1;
+}
+
+/* ---- Differences -------------------------------------------------------------------------- */
+
+static const char *side_name(int side) { return side == DESK ? "desk" : side == PLAIN ? "plain" : "the driver"; }
+
+static void print_answer(int side)
+{
+    printf("%s_%s answers", side_name(side), call_name[now.call]);
+    if (side == lost) {
+        printf(" nothing: it did not come back\n");
+        return;
+    }
+    for (int i = 0; i < NUMBERS && answer_name[now.call][i]; i++)
+        printf("%s %s %" PRIu64, i ? "," : "", answer_name[now.call][i], answer[side][i]);
+    printf("\n");
+}
+
+static void write_stretch(FILE *f, int which)
+{
+    const bool used[LENT] = {true, now.call != SHOW, now.call != SHOW, now.call == JUDGE_FULL, now.call == RESTORE};
+    size_t n = which >= LENT || used[which] ? now.size[which] : 0;
+    const uint8_t *bytes = lent(which);
+    fprintf(f, "%s %zu\n", stretch_name[which], n);
+    for (size_t k = 0; k < n; k++)
+        fprintf(f, "%02x%s", bytes[k], k + 1 == n || k % 32 == 31 ? "\n" : "");
+}
+
+static void keep_case(const char *what)
+{
+    char name[200];
+    if (!kept_name)
+        return;
+    snprintf(name, sizeof name, "%s%" PRIu64 ".txt", kept_name, calls);
+    FILE *f = fopen(name, "w");
+    if (!f) {
+        perror(name);
+        return;
+    }
+    fprintf(f, "# %s\ncall %s\nroom %zu\nplaces %zu\nrecord %" PRIu64 "\nfield %" PRIu64 "\nshift %zu\n", what,
+            call_name[now.call], now.room, now.places, now.record, now.field, now.shift);
+    for (int i = 0; i < STRETCHES; i++)
+        write_stretch(f, i);
+    if (fclose(f) == 0)
+        printf("case kept; to run it again: bash tests/run --replay %s\n", name);
+}
+
+static void differ(const char *what)
+{
+    printf("difference in %s: %s\n", call_name[now.call], what);
+    print_answer(DESK);
+    print_answer(PLAIN);
+    keep_case(what);
+    printf("%" PRIu64 " calls compared, 1 differ\n", calls);
+    fflush(stdout);
+    _exit(1);
+}
+
+/* A side that touches what it was not lent is told like any other difference. */
+static void stopped(int signal_number)
+{
+    static char what[80];
+    lost = running;
+    if (lost == DESK)
+        ask(PLAIN);
+    snprintf(what, sizeof what, "%s stopped with signal %d", side_name(lost), signal_number);
+    differ(what);
+}
+
+static void watch_signals(void)
+{
+    static uint8_t spare_stack[1 << 17];
+    static const int signals[] = {SIGSEGV, SIGBUS, SIGILL, SIGFPE, SIGABRT, SIGTRAP};
+    sigaltstack(&(stack_t){.ss_sp = spare_stack, .ss_size = sizeof spare_stack}, NULL);
+    struct sigaction action = {.sa_handler = stopped, .sa_flags = SA_NODEFER | SA_ONSTACK};
+    for (size_t i = 0; i < sizeof signals / sizeof signals[0]; i++)
+        sigaction(signals[i], &action, NULL);
+}
+
+static size_t first_difference(const uint8_t *a, const uint8_t *b, size_t n)
+{
+    size_t i = 0;
+    while (i < n && a[i] == b[i])
+        i++;
+    return i;
+}
+
+/* What a call was lent for writing keeps its bytes but for those written, all of them if it refused. */
+static void check_kept(int side, const char *name, const uint8_t *bytes, size_t size, size_t written)
+{
+    static char text[120];
+    if (written <= size && memcmp(bytes - APRON, pattern, APRON) == 0 &&
+        memcmp(bytes + written, pattern + APRON + written, size - written) == 0)
+        return;
+    snprintf(text, sizeof text, "%s changes %s that keep their bytes, or counts more than it was lent",
+             side_name(side), name);
+    differ(text);
+}
+
+/* What holds of every answer, whatever was lent. */
+static void check_answer(int side)
+{
+    const uint64_t *a = answer[side];
+    bool writes = now.call == PREPARE || now.call == RESTORE;
+    if (writes)
+        check_kept(side, "output bytes", out_of(side), now.room, a[0] ? 0 : now.size[FILE_IN]);
+    if (now.call == PREPARE) {
+        const uint32_t *notes = notes_of(side);
+        check_kept(side, "note places", (const uint8_t *)notes, 4 * now.places, a[0] ? 0 : 4 * a[2]);
+        if (a[0] && a[2])
+            differ("notes counted though refused");
+        for (uint64_t i = 0; i + 1 < a[2]; i++)
+            if (notes[i] / 256 >= notes[i + 1] / 256)
+                differ("notes do not rise");
+    }
+    if ((writes || now.call == JUDGE_FULL) && (a[0] == 0 || a[0] >= 50) && a[1] != 0)
+        differ("record 0 expected");
+    if (now.call == JUDGE_FULL && a[0] && (a[2] || a[3] || a[4]))
+        differ("sums answered though refused");
+    if (now.call == SHOW && (a[1] ? a[0] > now.size[FILE_IN] || a[1] > now.size[FILE_IN] - a[0] : a[0] != 0))
+        differ("part outside the file, or an empty part with a place");
+}
+
+/* ---- What is due by the paper ------------------------------------------------------------- */
+
+static void check_due_bytes(int side, const char *name, int which, const void *have, size_t room)
+{
+    static char text[120];
+    const uint8_t *wanted = lent(which);
+    size_t n = now.size[which];
+    if (n == 0 || (n <= room && memcmp(have, wanted, n) == 0))
+        return;
+    size_t i = first_difference(have, wanted, n < room ? n : room);
+    snprintf(text, sizeof text, "of %s, hex %02X is due by the paper at byte %zu of the %s", side_name(side),
+             wanted[i < n ? i : n - 1], i, name);
+    differ(text);
+}
+
+static void check_due(int side)
+{
+    static char text[120];
+    const uint64_t *wanted = lent(ANSWER_DUE);
+    for (size_t i = 0; i < now.size[ANSWER_DUE] / 8; i++)
+        if (answer[side][i] != wanted[i]) {
+            snprintf(text, sizeof text, "of %s, %s %" PRIu64 " is due by the paper", side_name(side),
+                     answer_name[now.call][i], wanted[i]);
+            differ(text);
+        }
+    check_due_bytes(side, "output", OUTPUT_DUE, out_of(side), now.room);
+    check_due_bytes(side, "note places", NOTES_DUE, notes_of(side), 4 * now.places);
+}
+
+/* ---- The call ----------------------------------------------------------------------------- */
+
+static void check_sides_agree(const char *name, const uint8_t *a, const uint8_t *b, size_t n)
+{
+    static char text[120];
+    if (memcmp(a, b, n) == 0)
+        return;
+    snprintf(text, sizeof text, "%s differ, first at byte %zu", name, first_difference(a, b, n));
+    differ(text);
+}
+
+/* Every check of a call is made here, so that a replay makes it too. */
+static const uint64_t *run(void)
+{
+    calls++;
+    for (int side = 0; side < SIDES; side++) {
+        fill_outputs(side);
+        ask(side);
+    }
+    if (now.size[ANSWER_DUE] + now.size[OUTPUT_DUE] + now.size[NOTES_DUE] > 0)
+        for (int side = 0; side < SIDES; side++)
+            check_due(side);
+    if (memcmp(answer[DESK], answer[PLAIN], sizeof answer[DESK]) != 0)
+        differ("answers");
+    for (int side = 0; side < SIDES; side++)
+        check_answer(side);
+    check_sides_agree("output bytes", out_of(DESK), out_of(PLAIN), now.room);
+    check_sides_agree("note places", (uint8_t *)notes_of(DESK), (uint8_t *)notes_of(PLAIN), 4 * now.places);
+    now.size[ANSWER_DUE] = now.size[OUTPUT_DUE] = now.size[NOTES_DUE] = 0;
+    return answer[DESK];
+}
+
+static const uint64_t *call_with(int call, size_t room, size_t places, uint64_t record, uint64_t field)
+{
+    now.call = call;
+    now.room = room;
+    now.places = places;
+    now.record = record;
+    now.field = field;
+    return run();
+}
+
+const uint64_t *judge(void) { return call_with(JUDGE, 0, 0, 0, 0); }
+const uint64_t *judge_full(void) { return call_with(JUDGE_FULL, 0, 0, 0, 0); }
+const uint64_t *prepare(size_t room, size_t places) { return call_with(PREPARE, room, places, 0, 0); }
+const uint64_t *restore(size_t room) { return call_with(RESTORE, room, 0, 0, 0); }
+const uint64_t *show(uint64_t record, uint64_t field) { return call_with(SHOW, 0, 0, record, field); }
+
+const uint8_t *output_left(void) { return out_of(DESK); }
+const uint32_t *notes_left(void) { return notes_of(DESK); }
+uint64_t calls_made(void) { return calls; }
+
+void open_areas(const char *cases)
+{
+    uint64_t state = 7;
+    kept_name = cases;
+    for (int i = 0; i < STRETCHES; i++)
+        stretch[i] = make_area(most_bytes[i], true);
+    for (int s = 0; s < SIDES; s++) {
+        output[s] = make_area(MOST_FILE + SPARE, false);
+        note_places[s] = make_area(4 * MOST_NOTES + SPARE, false);
+    }
+    for (size_t i = 0; i + 8 <= sizeof pattern; i += 8) {
+        uint64_t eight = next_random(&state);
+        memcpy(pattern + i, &eight, 8);
+    }
+    watch_signals();
+}
+
+/* ---- Replay ------------------------------------------------------------------------------- */
+
+static bool read_number(FILE *f, const char *name, uint64_t *number)
+{
+    char word[32];
+    return fscanf(f, " %31s %" SCNu64, word, number) == 2 && strcmp(word, name) == 0;
+}
+
+static bool read_stretch(FILE *f, int which)
+{
+    uint64_t n;
+    unsigned byte;
+    if (!read_number(f, stretch_name[which], &n) || n > most_bytes[which] - now.shift)
+        return false;
+    now.size[which] = (size_t)n;
+    for (uint64_t k = 0; k < n; k++) {
+        if (fscanf(f, " %2x", &byte) != 1)
+            return false;
+        (stretch[which].write - back(which))[k] = (uint8_t)byte;
+    }
+    printf("%s: %" PRIu64 " bytes\n", stretch_name[which], n);
+    return true;
+}
+
+static bool read_figures(FILE *f)
+{
+    uint64_t room, places, shift;
+    if (!read_number(f, "room", &room) || !read_number(f, "places", &places) ||
+        !read_number(f, "record", &now.record) || !read_number(f, "field", &now.field) ||
+        !read_number(f, "shift", &shift))
+        return false;
+    now.room = (size_t)room, now.places = (size_t)places, now.shift = (size_t)shift;
+    printf("room %" PRIu64 ", places %" PRIu64 ", record %" PRIu64 ", field %" PRIu64 ", shift %" PRIu64 "\n", room,
+           places, now.record, now.field, shift);
+    return room <= MOST_FILE + SPARE / 2 && places <= MOST_NOTES + SPARE / 8 && shift <= SPARE / 2;
+}
+
+/* Reads a kept case into the request; says what it reads. */
+static bool read_case(FILE *f)
+{
+    char word[32], line[200];
+    if (!fgets(line, sizeof line, f) || fscanf(f, " call %31s", word) != 1)
+        return false;
+    printf("kept: %s", line);
+    now.call = 0;
+    while (now.call < CALLS && strcmp(word, call_name[now.call]) != 0)
+        now.call++;
+    if (now.call == CALLS || !read_figures(f))
+        return false;
+    for (int i = 0; i < STRETCHES; i++)
+        if (!read_stretch(f, i))
+            return false;
+    return true;
+}
+
+static void print_run(int side)
+{
+    fill_outputs(side);
+    ask(side);
+    print_answer(side);
+    for (uint64_t i = 0; now.call == PREPARE && i < answer[side][2] && i < now.places && i < 10; i++)
+        printf("  note: place %u, byte %u\n", notes_of(side)[i] / 256, notes_of(side)[i] % 256);
+}
+
+int replay(const char *name)
+{
+    FILE *f = fopen(name, "r");
+    if (!f) {
+        perror(name);
+        return 2;
+    }
+    bool good = read_case(f);
+    fclose(f);
+    if (!good) {
+        fprintf(stderr, "%s: no kept case\n", name);
+        return 2;
+    }
+    print_run(DESK);
+    print_run(PLAIN);
+    run();                                          /* tells a difference, if there is one */
+    printf("%" PRIu64 " calls compared, 0 differ\n", calls);
+    return 0;
+}

@@ -1,0 +1,52 @@
+/* Lent memory, one request to both sides, what counts as a difference, and kept cases.
+
+   Every lent stretch ends at a page that cannot be touched; what is lent for reading stands in pages that cannot be
+   written. What is due of a call by document 01 is held to both sides; then the sides are held to one another. */
+#ifndef LENT_H
+#define LENT_H
+
+#include <stdbool.h>
+#include <stddef.h>
+#include <stdint.h>
+
+enum { JUDGE, JUDGE_FULL, PREPARE, RESTORE, SHOW, CALLS };
+enum { FILE_IN, TRANSFER, CHEQUE_LIST, TAKEN, NOTES_IN, LENT };
+
+enum { SPARE = 1 << 18 };                           /* the longest list, in bytes */
+
+/* Makes the memory. Cases that differ are kept under this name, with the call's number and .txt behind it. */
+void open_areas(const char *cases);
+
+/* Lends bytes for reading, to this and the following calls. */
+void lend(int which, const void *bytes, size_t n);
+
+/* A place in the lent file, for changing it there. */
+uint8_t *lent_file(size_t at);
+
+/* As many bytes then stand between the lent file and the closed page; before the file is lent. */
+void shift_file(size_t bytes);
+
+/* What the paper asks of the next call, and of that one alone: the answer's first numbers, the bytes that the output
+   begins with, and the notes that the note places begin with. */
+void due_numbers(const uint64_t *numbers, size_t n);
+#define due(...) due_numbers((const uint64_t[]){__VA_ARGS__}, sizeof(const uint64_t[]){__VA_ARGS__} / 8)
+void due_output(const uint8_t *bytes, size_t n);
+void due_notes(const uint32_t *notes, size_t n);
+
+/* The calls. Each answers the numbers that both sides gave, five at most, the others 0. */
+const uint64_t *judge(void);
+const uint64_t *judge_full(void);
+const uint64_t *prepare(size_t room, size_t places);
+const uint64_t *restore(size_t room);
+const uint64_t *show(uint64_t record, uint64_t field);
+
+/* What the last prepare left: the output, and the note places. */
+const uint8_t *output_left(void);
+const uint32_t *notes_left(void);
+
+uint64_t calls_made(void);
+
+/* Runs a kept case again, and checks again what was due of it; the status to end with. */
+int replay(const char *name);
+
+#endif

@@ -1,0 +1,30 @@
+/* What the tests themselves take from document 01: where text stands, what the table makes of it, dates, lists. Both sides
+   of the comparison are held to what follows from it. */
+#ifndef PAPER_H
+#define PAPER_H
+
+#include <stdbool.h>
+#include <stddef.h>
+#include <stdint.h>
+
+/* Text fields as numbered for display: 1 stands in Q, 2 to 9 in T. First and last offset in the record. */
+typedef struct { int first, last; } place;
+extern const place text_field[10];
+
+enum { MOST_NOTES = 140 + 9999 * 553 };             /* every character of every text field */
+
+/* What stands in the forwarded file for a byte of a text field. */
+uint8_t becomes(uint8_t b);
+
+/* Whether a place of a sound file of n bytes lies in a text field. */
+bool in_text(size_t at, size_t n);
+
+/* The forwarded file of a sound file, and its notes; answers how many there are. */
+size_t forwarded_of(const uint8_t *file, size_t n, uint8_t *forwarded, uint32_t *notes);
+
+/* Whether a year 2000 to 2099 has this day. */
+bool has_day(unsigned year, unsigned month, unsigned day);
+
+bool is_listed(const uint8_t *list, size_t n, const uint8_t country[2]);
+
+#endif

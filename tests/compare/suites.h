@@ -1,0 +1,41 @@
+/* The suites of the comparison. Each is a file of its own; compare.c runs them in turn. */
+#ifndef SUITES_H
+#define SUITES_H
+
+#include <stdbool.h>
+#include <stddef.h>
+#include <stdint.h>
+
+/* rules.c: each rule broken alone, and each pair of rules at once. */
+void each_rule_alone(void);
+void each_pair_of_rules(void);
+void break_rules_at_random(void);                   /* in the draft; what is then due is not known */
+void random_rule_alone(void);
+void random_pair_of_rules(void);
+
+/* pairs.c: prepare and restore. */
+void prepare_pair(bool sound);                      /* the draft, which the caller knows to be sound, or does not know */
+bool have_pair(void);                               /* whether the last one gave a pair */
+void random_rooms(void);
+void random_change(void);
+void each_room_and_pair(void);
+void some_rooms_and_changes(void);                  /* of the last pair, which may be long */
+
+/* others.c: what is due of the calls beside the judge, on the draft as it is lent. Its first broken rule is known; 0 if it
+   is sound. */
+void another_call(size_t turn, uint64_t rule, uint64_t record);
+void show_part(uint64_t record, uint64_t field, bool walked);       /* walked: no rule of 1 to 5 is broken */
+
+/* cases.c: the cases that document 01 names, lists and numbers, every length, long files. */
+void named_cases(void);
+void each_length(void);
+void long_files(void);
+void random_taken_numbers(bool sound);
+void random_parts(void);
+void spoil_structure(void);                         /* of the draft; what is then due is not known */
+
+/* sweep.c: every byte at every place, every date, every pair of characters, near misses, many payments. */
+void sweep(void);
+
+
+#endif
