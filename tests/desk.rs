@@ -7,7 +7,8 @@ use desk::{Field, Judgement, Lists, Note, Refusal};
 
 const SOUND: &[u8] = include_bytes!("../samples/sound.dtazv");
 const REFUSED: &[u8] = include_bytes!("../samples/refused.dtazv");
-const LISTS: Lists = Lists { transfer: b"AU", cheque: b"BR" };
+const CHEQUES: &[u8] = include_bytes!("../samples/cheques.dtazv");
+const LISTS: Lists = Lists { transfer: b"BRAUCL", cheque: b"VEPE" };
 const SWAPPED: Lists = Lists { transfer: LISTS.cheque, cheque: LISTS.transfer };
 
 fn refused<T>(number: u64, record: u64) -> Result<T, Refusal> {
@@ -24,6 +25,10 @@ fn judges() {
     assert_eq!(desk::judge(SOUND, LISTS, &[7, 1226111602]), Ok(sound));
     assert_eq!(desk::judge(SOUND, LISTS, &[7, 1226111601]), refused(50, 0));
     assert_eq!(desk::judge(SOUND, SWAPPED, &[]), refused(28, 1));
+    let cheques = Judgement { payments: 2, euros: 349, cents: 90 };
+    assert_eq!(desk::judge(CHEQUES, LISTS, &[1226111601]), Ok(cheques));
+    assert_eq!(desk::judge(CHEQUES, LISTS, &[1226111602]), refused(50, 0));
+    assert_eq!(desk::judge(CHEQUES, SWAPPED, &[]), refused(28, 1));
     assert_eq!(desk::judge(REFUSED, LISTS, &[]), refused(42, 4));
     assert_eq!(desk::judge(&[], LISTS, &[]), refused(2, 0));
 }

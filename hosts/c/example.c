@@ -1,15 +1,33 @@
-/* A host: judges a file, prepares it, tells each change with its field and the characters before and after, writes the
-   forwarded file and the notes, and shows that restore gives the file back.
+/* A host: judges a file, prepares it, tells each change with its field and the characters before and after, shows that
+   restore gives the file back, and writes the forwarded file and its notes.
 
        example FILE [FORWARDED NOTES]
 
-   Status 0: sound; 1: refused; 2: a file could not be read or written. */
+   Its order is such that no failure costs a file:
+   1. FILE, FORWARDED and NOTES have to be three files, by whatever names. A target that is there already has to be a
+      regular file; step 5 replaces it.
+   2. FILE is read, judged, prepared and restored in memory, and what is restored has to be the very file.
+   3. All this is told. Where it cannot be printed nothing is written: no file goes on with changes that nobody saw.
+   4. Notes and forwarded file are written, down to the disk, each to a new file beside its target: the target's name
+      with .new behind it. Where a file of that name is there already, as a killed run leaves it, it stays and the run
+      ends.
+   5. When both are complete they are renamed to their targets, the notes first: no forwarded file is without them.
+   Where a step fails, the new files are removed and the targets are as they were; only where the very last renaming
+   fails are the new notes in place already.
+
+   Status 0: sound, and all is done; 1: refused; 2: used wrongly, or something could not be read or written. */
+#define _POSIX_C_SOURCE 200809L
 #include "desk.h"
 
+#include <errno.h>
 #include <inttypes.h>
+#include <signal.h>
 #include <stdbool.h>
 #include <stdio.h>
+#include <stdlib.h>
 #include <string.h>
+#include <sys/stat.h>
+#include <unistd.h>
 
 /* Annex II and Annex I of source document 000. */
 static const char transfer[] =
@@ -25,28 +43,146 @@ enum { MOST = 7679744 };
 static uint8_t file[MOST + 1], forwarded[MOST + 1], restored[MOST + 1];
 static uint32_t notes[MOST];
 
+/* Says what is wrong with a path; always false, for the caller to hand on. */
+static bool wrong(const char *path, const char *why)
+{
+    fprintf(stderr, "%s: %s\n", path, why);
+    return false;
+}
+
+/* The paths: the words, and the new files that become the two targets. */
+enum { GIVEN, FORWARDED, NOTES, NEW_FORWARDED, NEW_NOTES, PATHS };
+
+/* A text's first bytes, with an end behind them. */
+static char *joined(const char *text, size_t length, const char *end)
+{
+    char *whole = malloc(length + strlen(end) + 1);
+    if (!whole) {
+        fprintf(stderr, "no memory left\n");
+        exit(2);
+    }
+    memcpy(whole, text, length);
+    strcpy(whole + length, end);
+    return whole;
+}
+
+static char *new_name(const char *path) { return joined(path, strlen(path), ".new"); }
+
+/* Where a path leads: to a file that is there, or to a name in a directory where there is none yet. */
+typedef struct {
+    bool exists, regular;
+    dev_t device; /* the file's or, where there is none yet, its directory's */
+    ino_t inode;
+    const char *name; /* the path's last one */
+} location;
+
+/* Asks for the directory in which a path's last name stands. "/" keeps its slash; the empty path is in none. */
+static bool stat_directory(const char *path, const char *name, struct stat *status)
+{
+    char *directory = joined(path, (size_t)(name - path), name == path && *path ? "." : "");
+    bool found = stat(directory, status) == 0;
+    int why = errno;
+    free(directory);
+    return found || wrong(path, strerror(why));
+}
+
+static bool locate(const char *path, location *found)
+{
+    struct stat status;
+    const char *slash = strrchr(path, '/');
+    found->name = slash ? slash + 1 : path;
+    found->exists = stat(path, &status) == 0;
+    if (!found->exists && errno != ENOENT)
+        return wrong(path, strerror(errno));
+    if (!found->exists && !stat_directory(path, found->name, &status))
+        return false;
+    found->regular = S_ISREG(status.st_mode);
+    found->device = status.st_dev;
+    found->inode = status.st_ino;
+    return true;
+}
+
+static bool same(const location *a, const location *b)
+{
+    return a->exists == b->exists && a->device == b->device && a->inode == b->inode &&
+           (a->exists || strcmp(a->name, b->name) == 0);
+}
+
+/* Whether the paths lead to different files, and the targets may be replaced. */
+static bool apart(const char *const paths[PATHS])
+{
+    location at[PATHS];
+    for (int i = 0; i < PATHS; i++) {
+        if (!locate(paths[i], &at[i]))
+            return false;
+        if ((i == FORWARDED || i == NOTES) && at[i].exists && !at[i].regular)
+            return wrong(paths[i], "not a regular file");
+        for (int j = 0; j < i; j++) {
+            if (!same(&at[i], &at[j]))
+                continue;
+            if (i > NOTES)
+                return wrong(paths[i], "this name is needed while writing; choose another");
+            fprintf(stderr, "%s and %s are the same file\n", paths[j], paths[i]);
+            return false;
+        }
+    }
+    return true;
+}
+
 /* As many bytes as fit; a file that is longer than any sound one fills the last place too, and is refused. */
 static bool read_whole(const char *path, size_t *n)
 {
     FILE *f = fopen(path, "rb");
-    if (f)
-        *n = fread(file, 1, sizeof file, f);
-    if (!f || ferror(f)) {
-        perror(path);
-        return false;
-    }
+    if (!f)
+        return wrong(path, strerror(errno));
+    *n = fread(file, 1, sizeof file, f);
+    bool complete = !ferror(f);
+    int why = errno;
     fclose(f);
-    return true;
+    return complete || wrong(path, strerror(why));
 }
 
-static bool write_whole(const char *path, const void *bytes, size_t size)
+/* Writes a new file, down to the disk. Where that fails nothing of it is left. */
+static bool write_new(const char *path, const void *bytes, size_t size)
 {
-    FILE *f = fopen(path, "wb");
-    if (!f || fwrite(bytes, 1, size, f) != size || fclose(f) != 0) {
-        perror(path);
+    FILE *f = fopen(path, "wbx"); /* x: only where there is none */
+    if (!f)
+        return wrong(path, strerror(errno));
+    bool complete = fwrite(bytes, 1, size, f) == size && fflush(f) == 0 && fsync(fileno(f)) == 0;
+    int why = errno;
+    bool closed = fclose(f) == 0;
+    if (complete && closed)
+        return true;
+    if (complete)
+        why = errno;
+    unlink(path);
+    return wrong(path, strerror(why));
+}
+
+/* Renames a complete new file to its target. Where that fails nothing of it is left. */
+static bool put_in_place(const char *new_path, const char *path)
+{
+    if (rename(new_path, path) == 0)
+        return true;
+    wrong(path, strerror(errno));
+    unlink(new_path);
+    return false;
+}
+
+/* Writes the forwarded file and so many notes: both, or none. */
+static bool write_both(const char *const paths[PATHS], size_t n, uint64_t count)
+{
+    if (!write_new(paths[NEW_NOTES], notes, count * sizeof notes[0]))
+        return false;
+    if (!write_new(paths[NEW_FORWARDED], forwarded, n)) {
+        unlink(paths[NEW_NOTES]);
         return false;
     }
-    return true;
+    if (!put_in_place(paths[NEW_NOTES], paths[NOTES])) {
+        unlink(paths[NEW_FORWARDED]);
+        return false;
+    }
+    return put_in_place(paths[NEW_FORWARDED], paths[FORWARDED]);
 }
 
 /* The text field in which a changed place lies. The parts are those of Q and of the first T record: a call of desk_show
@@ -74,22 +210,16 @@ static void tell_changes(size_t n, uint64_t count)
     printf("%" PRIu64 " characters changed\n", count);
 }
 
-static int refused(uint64_t number, uint64_t record)
+static bool refused(uint64_t number, uint64_t record)
 {
     printf("refused: rule %" PRIu64 " at record %" PRIu64 "\n", number, record);
-    return 1;
+    return false;
 }
 
-int main(int argc, char **argv)
+/* Judges, prepares and restores the file in memory, and tells what it finds. Whether there is something to write: a
+   sound file's forwarded file and so many notes, from which the very file was restored. */
+static bool examine(size_t n, uint64_t *count)
 {
-    size_t n = 0;
-    if (argc != 2 && argc != 4) {
-        fprintf(stderr, "usage: example FILE [FORWARDED NOTES]\n");
-        return 2;
-    }
-    if (!read_whole(argv[1], &n))
-        return 2;
-
     static const uint64_t none[1];
     desk_judgement judged = desk_judge_full(file, n, LISTS, none, 0);
     if (judged.number)
@@ -101,15 +231,40 @@ int main(int argc, char **argv)
     if (prepared.number)
         return refused(prepared.number, prepared.record);
     tell_changes(n, prepared.notes);
-    if (argc == 4 && !(write_whole(argv[2], forwarded, n) &&
-                       write_whole(argv[3], notes, prepared.notes * sizeof notes[0])))
-        return 2;
+    *count = prepared.notes;
 
     desk_restored back = desk_restore(forwarded, n, notes, prepared.notes, LISTS, restored, sizeof restored);
-    if (back.number || memcmp(file, restored, n) != 0) {
-        printf("not restored\n");
-        return 1;
+    bool the_very_file = back.number == 0 && memcmp(file, restored, n) == 0;
+    puts(the_very_file ? "restored: the very file" : "not restored");
+    return the_very_file;
+}
+
+int main(int argc, char **argv)
+{
+    bool writes = argc == 4;
+    if (argc != 2 && !writes) {
+        fprintf(stderr, "usage: example FILE [FORWARDED NOTES]\n");
+        return 2;
     }
-    printf("restored: the very file\n");
-    return 0;
+    signal(SIGPIPE, SIG_IGN); /* where nobody reads on, printing fails, and is told like every other failure */
+
+    const char *paths[PATHS] = {argv[1]};
+    if (writes) {
+        paths[FORWARDED] = argv[2];
+        paths[NOTES] = argv[3];
+        paths[NEW_FORWARDED] = new_name(argv[2]);
+        paths[NEW_NOTES] = new_name(argv[3]);
+    }
+    size_t n = 0;
+    uint64_t count = 0;
+    if ((writes && !apart(paths)) || !read_whole(paths[GIVEN], &n))
+        return 2;
+    bool restorable = examine(n, &count);
+    if (fflush(stdout) != 0 || ferror(stdout)) {
+        fprintf(stderr, "standard output cannot be written\n");
+        return 2;
+    }
+    if (!restorable)
+        return 1;
+    return !writes || write_both(paths, n, count) ? 0 : 2;
 }

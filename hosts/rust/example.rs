@@ -1,17 +1,32 @@
-//! A host: judges a file, prepares it, tells each change with its field and the characters before and after, writes the
-//! forwarded file and the notes, and shows that restore gives the file back.
+//! A host: judges a file, prepares it, tells each change with its field and the characters before and after, shows that
+//! restore gives the file back, and writes the forwarded file and its notes.
 //!
 //!     example FILE [FORWARDED NOTES]
 //!
-//! Status 0: sound; 1: refused; 2: a file could not be read or written.
+//! Its order is such that no failure costs a file:
+//! 1. FILE, FORWARDED and NOTES have to be three files, by whatever names. A target that is there already has to be a
+//!    regular file; step 5 replaces it.
+//! 2. FILE is read, judged, prepared and restored in memory, and what is restored has to be the very file.
+//! 3. All this is told. Where it cannot be printed nothing is written: no file goes on with changes that nobody saw.
+//! 4. Notes and forwarded file are written, down to the disk, each to a new file beside its target: the target's name
+//!    with .new behind it. Where a file of that name is there already, as a killed run leaves it, it stays and the run
+//!    ends.
+//! 5. When both are complete they are renamed to their targets, the notes first: no forwarded file is without them.
+//!
+//! Where a step fails, the new files are removed and the targets are as they were; only where the very last renaming
+//! fails are the new notes in place already.
+//!
+//! Status 0: sound, and all is done; 1: refused; 2: used wrongly, or something could not be read or written.
 
 #[allow(dead_code)] // not every call is made here
 mod desk;
 
 use desk::{Field, Lists, Note, Refusal};
-use std::fs::{self, File};
-use std::io::{self, BufWriter, Read, Write};
+use std::ffi::{OsStr, OsString};
+use std::fs::{self, File, OpenOptions};
+use std::io::{self, BufWriter, ErrorKind, Read, Write};
 use std::ops::Range;
+use std::os::unix::{ffi::OsStrExt, fs::MetadataExt};
 use std::path::{Path, PathBuf};
 use std::process::ExitCode;
 
@@ -26,53 +41,79 @@ const LISTS: Lists = Lists {
 /// The longest file that is not refused by rule 1.
 const MOST: u64 = 7_679_744;
 
+/// Something could not be done: the line that says so, in which a path keeps its very bytes.
+type Failure = OsString;
+
 fn main() -> ExitCode {
     let paths: Vec<PathBuf> = std::env::args_os().skip(1).map(PathBuf::from).collect();
-    if paths.len() != 1 && paths.len() != 3 {
-        eprintln!("usage: example FILE [FORWARDED NOTES]");
-        return ExitCode::from(2);
-    }
-    let mut out = BufWriter::new(io::stdout());
-    let sound = run(&paths, &mut out);
-    match out.flush().and(sound) {
+    let done = match &paths[..] {
+        [file] => run(file, None),
+        [file, forwarded, notes] => run(file, Some(Targets::new(forwarded, notes))),
+        _ => Err("usage: example FILE [FORWARDED NOTES]".into()),
+    };
+    match done {
         Ok(true) => ExitCode::SUCCESS,
         Ok(false) => ExitCode::from(1),
-        Err(error) => {
-            eprintln!("{error}");
+        Err(mut line) => {
+            line.push("\n");
+            let _ = io::stderr().write_all(line.as_bytes()); // where this cannot be said either, the status says it
             ExitCode::from(2)
         }
     }
 }
 
-/// The host's work; whether the file is sound.
-fn run(paths: &[PathBuf], out: &mut impl Write) -> io::Result<bool> {
-    let file = read(&paths[0])?;
-    match desk::judge(&file, LISTS, &[]) {
+/// The host's work; false where the file is refused.
+fn run(path: &Path, targets: Option<Targets>) -> Result<bool, Failure> {
+    if let Some(targets) = &targets {
+        targets.are_apart_from(path)?;
+    }
+    let file = read(path)?;
+    let mut out = BufWriter::new(io::stdout());
+    let examined = examine(&file, &mut out).and_then(|outgoing| out.flush().map(|()| outgoing));
+    let outgoing = match examined {
+        Ok(outgoing) if !at_start::output_was_closed() => outgoing,
+        _ => return Err("standard output cannot be written".into()),
+    };
+    if let (Some(outgoing), Some(targets)) = (&outgoing, &targets) {
+        targets.write(outgoing)?;
+    }
+    Ok(outgoing.is_some())
+}
+
+/// What goes on: the forwarded file, and its notes.
+struct Outgoing {
+    forwarded: Vec<u8>,
+    notes: Vec<u32>,
+}
+
+/// Judges, prepares and restores the file in memory, and tells what it finds. What goes on is there where the file is
+/// sound and the very file was restored.
+fn examine(file: &[u8], out: &mut impl Write) -> io::Result<Option<Outgoing>> {
+    match desk::judge(file, LISTS, &[]) {
         Ok(sound) => {
             writeln!(out, "sound: {} payments, {} euros and {} cents", sound.payments, sound.euros, sound.cents)?;
         }
-        Err(Refusal { number, record }) => {
-            writeln!(out, "refused: rule {number} at record {record}")?;
-            return Ok(false);
-        }
+        Err(refusal) => return refused(refusal, out),
     }
 
     let mut forwarded = vec![0; file.len()];
-    let mut places = vec![0; file.len()];
-    let prepared = desk::prepare(&file, LISTS, &mut forwarded, &mut places);
-    let notes = &places[..prepared.unwrap_or(0)];
-    tell_changes(&file, &forwarded, notes, out)?;
-    writeln!(out, "{} characters changed", notes.len())?;
-    if let [_, forwarded_path, notes_path] = paths {
-        write(forwarded_path, &forwarded)?;
-        write(notes_path, &notes.iter().flat_map(|note| note.to_le_bytes()).collect::<Vec<u8>>())?;
+    let mut notes = vec![0; file.len()];
+    match desk::prepare(file, LISTS, &mut forwarded, &mut notes) {
+        Ok(count) => notes.truncate(count),
+        Err(refusal) => return refused(refusal, out),
     }
+    tell_changes(file, &forwarded, &notes, out)?;
 
     let mut restored = vec![0; file.len()];
-    let back = prepared.and_then(|_| desk::restore(&forwarded, notes, LISTS, &mut restored));
-    let same = back.is_ok() && restored == file;
-    writeln!(out, "{}", if same { "restored: the very file" } else { "not restored" })?;
-    Ok(same)
+    let back = desk::restore(&forwarded, &notes, LISTS, &mut restored);
+    let the_very_file = back.is_ok() && restored == file;
+    writeln!(out, "{}", if the_very_file { "restored: the very file" } else { "not restored" })?;
+    Ok(the_very_file.then_some(Outgoing { forwarded, notes }))
+}
+
+fn refused(Refusal { number, record }: Refusal, out: &mut impl Write) -> io::Result<Option<Outgoing>> {
+    writeln!(out, "refused: rule {number} at record {record}")?;
+    Ok(None)
 }
 
 /// Tells each change. The places are asked of Q and of the first payment, for each asking walks the whole file; in every
@@ -90,7 +131,7 @@ fn tell_changes(file: &[u8], forwarded: &[u8], notes: &[u32], out: &mut impl Wri
         let becomes = forwarded[place] as char;
         writeln!(out, "record {record}, {name}, place {place}: hex {original:02X} becomes '{becomes}'")?;
     }
-    Ok(())
+    writeln!(out, "{} characters changed", notes.len())
 }
 
 /// The text fields of a record, each with its places in the file.
@@ -99,18 +140,153 @@ fn fields_of(file: &[u8], record: u64) -> impl Iterator<Item = (Field, Range<usi
 }
 
 /// The file's bytes; of one that is too long, as many as show it.
-fn read(path: &Path) -> io::Result<Vec<u8>> {
+fn read(path: &Path) -> Result<Vec<u8>, Failure> {
     let mut bytes = Vec::new();
     let read = File::open(path).and_then(|file| file.take(MOST + 1).read_to_end(&mut bytes));
-    read.map_err(|error| named(path, error))?;
+    read.map_err(|error| failed(path, &error))?;
     Ok(bytes)
 }
 
-fn write(path: &Path, bytes: &[u8]) -> io::Result<()> {
-    fs::write(path, bytes).map_err(|error| named(path, error))
+/// Where the forwarded file and the notes go, and the new files that become them.
+struct Targets {
+    forwarded: PathBuf,
+    notes: PathBuf,
+    new_forwarded: PathBuf,
+    new_notes: PathBuf,
 }
 
-/// The error with the path that it is about.
-fn named(path: &Path, error: io::Error) -> io::Error {
-    io::Error::new(error.kind(), format!("{}: {error}", path.display()))
+impl Targets {
+    fn new(forwarded: &Path, notes: &Path) -> Targets {
+        let new_name = |path: &Path| PathBuf::from(joined(&[&path, &".new"]));
+        Targets {
+            forwarded: forwarded.to_owned(),
+            notes: notes.to_owned(),
+            new_forwarded: new_name(forwarded),
+            new_notes: new_name(notes),
+        }
+    }
+
+    /// Asks that all paths lead to different files, and that the targets may be replaced.
+    fn are_apart_from(&self, file: &Path) -> Result<(), Failure> {
+        let mut before: Vec<(&Path, Location)> = Vec::new();
+        for (path, is_target) in [(file, false), (&self.forwarded, true), (&self.notes, true)] {
+            let location = locate(path)?;
+            if is_target && matches!(location, Location::File { regular: false, .. }) {
+                return Err(wrong(path, "not a regular file"));
+            }
+            if let Some((other, _)) = before.iter().find(|(_, found)| *found == location) {
+                return Err(joined(&[other, &" and ", &path, &" are the same file"]));
+            }
+            before.push((path, location));
+        }
+        for path in [&self.new_forwarded, &self.new_notes] {
+            let location = locate(path)?;
+            if before.iter().any(|(_, found)| *found == location) {
+                return Err(wrong(path, "this name is needed while writing; choose another"));
+            }
+            before.push((path, location));
+        }
+        Ok(())
+    }
+
+    /// Writes the forwarded file and its notes: both, or none.
+    fn write(&self, outgoing: &Outgoing) -> Result<(), Failure> {
+        let notes: Vec<u8> = outgoing.notes.iter().flat_map(|note| note.to_le_bytes()).collect();
+        write_new(&self.new_notes, &notes)?;
+        write_new(&self.new_forwarded, &outgoing.forwarded)
+            .map_err(|failure| removed(&self.new_notes, failure))?;
+        put_in_place(&self.new_notes, &self.notes).map_err(|failure| removed(&self.new_forwarded, failure))?;
+        put_in_place(&self.new_forwarded, &self.forwarded)
+    }
+}
+
+/// Where a path leads: to a file that is there, or to a name in a directory where there is none yet.
+#[derive(PartialEq)]
+enum Location {
+    File { device: u64, inode: u64, regular: bool },
+    Name { device: u64, inode: u64, name: OsString },
+}
+
+fn locate(path: &Path) -> Result<Location, Failure> {
+    match fs::metadata(path) {
+        Ok(file) => Ok(Location::File { device: file.dev(), inode: file.ino(), regular: file.is_file() }),
+        Err(error) if error.kind() == ErrorKind::NotFound => {
+            let (directory, name) = split(path);
+            let directory = fs::metadata(directory).map_err(|error| failed(path, &error))?;
+            Ok(Location::Name { device: directory.dev(), inode: directory.ino(), name: name.to_owned() })
+        }
+        Err(error) => Err(failed(path, &error)),
+    }
+}
+
+/// The directory in which a path's last name stands, and that name. "/" keeps its slash; the empty path is in no
+/// directory.
+fn split(path: &Path) -> (&Path, &OsStr) {
+    let bytes = path.as_os_str().as_bytes();
+    let start = bytes.iter().rposition(|&byte| byte == b'/').map_or(0, |slash| slash + 1);
+    let (directory, name) = bytes.split_at(start);
+    let directory = if directory.is_empty() && !name.is_empty() { b"." } else { directory };
+    (Path::new(OsStr::from_bytes(directory)), OsStr::from_bytes(name))
+}
+
+/// Writes a new file, down to the disk. Where that fails nothing of it is left.
+fn write_new(path: &Path, bytes: &[u8]) -> Result<(), Failure> {
+    let file = OpenOptions::new().write(true).create_new(true).open(path);
+    let mut file = file.map_err(|error| failed(path, &error))?;
+    let written = file.write_all(bytes).and_then(|()| file.sync_all());
+    written.map_err(|error| removed(path, failed(path, &error)))
+}
+
+/// Renames a complete new file to its target. Where that fails nothing of it is left.
+fn put_in_place(new_path: &Path, path: &Path) -> Result<(), Failure> {
+    fs::rename(new_path, path).map_err(|error| removed(new_path, failed(path, &error)))
+}
+
+/// The failure, with the new file removed for which there is no use after it.
+fn removed(new_path: &Path, failure: Failure) -> Failure {
+    let _ = fs::remove_file(new_path); // what failed first is what is told
+    failure
+}
+
+/// What is wrong with a path.
+fn wrong(path: &Path, why: &str) -> Failure {
+    joined(&[&path, &": ", &why])
+}
+
+fn joined(parts: &[&dyn AsRef<OsStr>]) -> OsString {
+    parts.iter().map(|part| part.as_ref()).collect()
+}
+
+/// The system's words for what is wrong with a path, without the number that Rust puts behind them.
+fn failed(path: &Path, error: &io::Error) -> Failure {
+    let words = error.to_string();
+    wrong(path, words.split(" (os error ").next().unwrap_or(&words))
+}
+
+/// Before main begins, Rust's library opens /dev/null in place of a closed standard output, and all that is told would
+/// be lost without a failure. So whether it is open is asked earlier, while the program is loaded.
+mod at_start {
+    use std::sync::atomic::{AtomicBool, Ordering::Relaxed};
+
+    static OUTPUT_WAS_CLOSED: AtomicBool = AtomicBool::new(false);
+
+    pub fn output_was_closed() -> bool {
+        OUTPUT_WAS_CLOSED.load(Relaxed)
+    }
+
+    #[used]
+    #[link_section = ".init_array"]
+    static LOOK: extern "C" fn() = look;
+
+    extern "C" fn look() {
+        const STANDARD_OUTPUT: i32 = 1;
+        const F_GETFD: i32 = 1;
+        // SAFETY: it reads the flags of a descriptor, and answers -1 where that is closed.
+        let flags = unsafe { fcntl(STANDARD_OUTPUT, F_GETFD) };
+        OUTPUT_WAS_CLOSED.store(flags == -1, Relaxed);
+    }
+
+    extern "C" {
+        fn fcntl(descriptor: i32, command: i32, ...) -> i32;
+    }
 }

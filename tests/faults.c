@@ -1,0 +1,39 @@
+/* Linked into both example hosts by tests/hosts, with ld's --wrap: faults that cannot be caused from outside. The word
+   in DESK_FAULT says which: with "restore" another byte comes back than went in, and any other word is a path to which
+   nothing can be renamed. */
+#include "../hosts/c/desk.h"
+
+#include <errno.h>
+#include <stdbool.h>
+#include <stdlib.h>
+#include <string.h>
+
+desk_restored __real_desk_restore(const uint8_t *forwarded, size_t n, const uint32_t *notes, size_t notes_n,
+                                  const uint8_t *transfer, size_t nt, const uint8_t *cheque, size_t nc,
+                                  uint8_t *out, size_t out_n);
+int __real_rename(const char *from, const char *to);
+
+static bool fault_is(const char *word)
+{
+    const char *fault = getenv("DESK_FAULT");
+    return fault && strcmp(fault, word) == 0;
+}
+
+desk_restored __wrap_desk_restore(const uint8_t *forwarded, size_t n, const uint32_t *notes, size_t notes_n,
+                                  const uint8_t *transfer, size_t nt, const uint8_t *cheque, size_t nc,
+                                  uint8_t *out, size_t out_n)
+{
+    desk_restored back = __real_desk_restore(forwarded, n, notes, notes_n, transfer, nt, cheque, nc, out, out_n);
+    if (fault_is("restore"))
+        out[n - 1] ^= 1;
+    return back;
+}
+
+int __wrap_rename(const char *from, const char *to)
+{
+    if (fault_is(to)) {
+        errno = EBUSY;
+        return -1;
+    }
+    return __real_rename(from, to);
+}
