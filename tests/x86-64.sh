@@ -26,6 +26,8 @@ else
     compiler="x86_64-linux-gnu-gcc -static"
     run=("$kit/on/$(uname -m)/toolchain/bin/qemu-x86_64")
     export DESK_EMULATED=$(uname -m)
+    # glibc copies by one repeated instruction, which the emulator does byte by byte: let it copy by steps
+    export GLIBC_TUNABLES=glibc.cpu.x86_rep_movsb_threshold=100000000:glibc.cpu.x86_rep_stosb_threshold=100000000
     command -v x86_64-linux-gnu-gcc >/dev/null || quietly install_packages gcc-x86-64-linux-gnu libc6-dev-amd64-cross
 fi
 

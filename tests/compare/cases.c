@@ -208,6 +208,23 @@ static void short_files(void)
     }
 }
 
+static void judge_draft(uint64_t code)
+{
+    lend_draft();
+    due(code);
+    judge();
+}
+
+/* Zeros, as long as a file may be and one byte longer. */
+static void zeros(void)
+{
+    memset(draft, 0, MOST_FILE + 1);
+    draft_n = MOST_FILE + 1;
+    judge_draft(1);
+    draft_n = MOST_FILE;
+    judge_draft(4);
+}
+
 /* The example with other bytes at one place, and the code that is then due. */
 typedef struct { size_t record; int at; const char *bytes; uint64_t code; } edge;
 
@@ -266,9 +283,9 @@ static void countries_of_any_content(void)
     worked_example();
     memcpy(record_of(1) + 207, "\xFF\x00 ", 3);
     memcpy(record_of(2) + 207, "   ", 3);
-    lend_draft();
-    due(0);
-    judge();
+    judge_draft(0);
+    memcpy(record_of(1) + 207, "X\x00 ", 3);             /* the lone last byte, and what may stand behind it */
+    judge_draft(128);
 }
 
 /* With a BIC, capitals are asked of T9a, listed or not; without one, the list decides. */
@@ -294,6 +311,7 @@ void named_cases(void)
     use_annexes();
     answers_of_the_example();
     short_files();
+    zeros();
     edges_of_the_rules();
     edges_of_the_sum();
     countries_of_any_content();
@@ -329,23 +347,16 @@ static void long_sound_file(void)
     each_part();
 }
 
-static void judge_far_back(uint64_t code)
-{
-    lend_draft();
-    due(code);
-    judge();
-}
-
 static void faults_far_back(void)
 {
     uint8_t *t27 = record_of(payments) + 766, kept = *t27;
     *t27 = 'X';
-    judge_far_back(999934);
+    judge_draft(999934);
     *t27 = kept;
     draft[draft_n - 1] = 'X';
-    judge_far_back(1000040);
+    judge_draft(1000040);
     draft[--draft_n] = ' ';
-    judge_far_back(1000002);
+    judge_draft(1000002);
     draft_n = MOST_FILE;
 }
 
@@ -365,11 +376,7 @@ static void one_byte_too_long(void)
     lend_draft();
     for (size_t turn = 0; turn < 4; turn++)
         another_call(turn, 1, 0);
-    judge_far_back(1);
-    memset(draft, 0, MOST_FILE + 1);
-    judge_far_back(1);
-    draft_n = MOST_FILE;
-    judge_far_back(4);
+    judge_draft(1);
 }
 
 void long_files(void)

@@ -2,7 +2,7 @@
    what document 01 asks for.
 
    compare [--seed N] [--calls N]
-       The fixed part, some 2.3 million calls; then random files, until N calls more are made.
+       The fixed part, some 1.4 million calls; then random files, until N calls more are made.
    compare --seconds N [--seed N]
        Random files alone, for that many seconds.
    compare --replay FILE
@@ -21,6 +21,7 @@ static void fixed_part(void)
 {
     use_annexes();
     named_cases();
+    near_misses();
     each_length();
     each_room_and_pair();
     each_rule_alone();

@@ -34,7 +34,9 @@ void random_taken_numbers(bool sound);
 void random_parts(void);
 void spoil_structure(void);                         /* of the draft; what is then due is not known */
 
-/* sweep.c: every byte at every place, every date, every pair of characters, near misses, many payments. */
+/* sweep.c: every date, what people send by mistake, wrong totals, long lists; and every byte at every place, every pair of
+   characters in the short fields, numbers of payments. */
+void near_misses(void);
 void sweep(void);
 
 

@@ -451,14 +451,18 @@ static void each_long_list(void)
     use_annexes();
 }
 
+void near_misses(void)
+{
+    each_date();
+    each_mistake();
+    each_total();
+    each_long_list();
+}
+
 void sweep(void)
 {
     each_byte();
     each_byte_of_text();
-    each_date();
     each_pair_of_characters();
-    each_mistake();
-    each_total();
     each_number_of_payments();
-    each_long_list();
 }
