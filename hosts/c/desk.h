@@ -1,5 +1,5 @@
-/* The desk's calls for hosts written in C. They are proved to meet the definitions that state document 01; libhost.a has
-   them for x86-64 (`rt staticlib host` writes target/staticlib/libhost.a).
+/* The desk's calls for hosts written in C. They are proved to meet the definitions that state the rules of docs/RULES.md;
+   libhost.a has them for x86-64 (`rt staticlib host` writes target/staticlib/libhost.a).
 
    Lent memory passes as a pointer and a count of elements. A pointer is never null; where its count is 0, nothing is
    read or written through it. What is lent for writing (out, notes) overlaps nothing else that is lent. Any bytes, any

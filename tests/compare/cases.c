@@ -104,7 +104,6 @@ void random_parts(void)
 
 static const char heads[] = "0256Q0768T0256Z0768Q0256T0768Z0255Q0769T0256X 768T0256z0768t2560Q\xB0" "768T";
 
-/* Takes out bytes of the draft that begin at this place, or puts them in behind its end. */
 static void take_out(size_t at, size_t n)
 {
     memmove(draft + at, draft + at + n, draft_n - at - n);
@@ -116,6 +115,9 @@ static void append(const uint8_t *bytes, size_t n)
     memmove(draft + draft_n, bytes, n);
     draft_n += n;
 }
+
+/* Bytes of the first payment, or of Z and what is behind it. */
+static void append_more(size_t n) { append(one_in(2) ? draft + 256 : draft + draft_n - 256, n); }
 
 static void cut_near_an_edge(void)
 {
@@ -130,7 +132,7 @@ void spoil_structure(void)
     uint8_t *r = record_of(record);
     switch (below(9)) {
     case 0: cut_near_an_edge(); break;
-    case 1: append(one_in(2) ? draft + 256 : draft + draft_n - 256, one_in(3) ? 768 : one_in(3) ? 256 : 1 + below(5)); break;
+    case 1: append_more(one_in(3) ? 768 : one_in(3) ? 256 : 1 + below(5)); break;
     case 2: memcpy(r, heads + 5 * below(sizeof heads / 5), 5); break;
     case 3: r[4] = (uint8_t)"QTZqtz 0"[below(8)]; break;
     case 4: memcpy(r, heads + 5 * below(sizeof heads / 5), 4); break;
@@ -160,7 +162,7 @@ void each_length(void)
     }
     for (size_t more = 1; more <= 800; more++) {
         draft_n = whole;
-        append(one_in(2) ? draft + 256 : draft + whole - 256, more > 256 ? 256 : more);
+        append_more(more > 256 ? 256 : more);
         draft_n = whole + more;
         lend_draft();
         due(305);

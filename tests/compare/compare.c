@@ -96,7 +96,7 @@ int main(int argc, char **argv)
 {
     char cases[80];
     const char *kept = NULL;
-    uint64_t seed = 1, calls = 100000, seconds = 0;
+    uint64_t seed = 1, calls = 50000, seconds = 0;
     for (int i = 1; i + 1 < argc; i += 2)
         if (strcmp(argv[i], "--seed") == 0) seed = strtoull(argv[i + 1], NULL, 0);
         else if (strcmp(argv[i], "--calls") == 0) calls = strtoull(argv[i + 1], NULL, 0);

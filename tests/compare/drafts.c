@@ -197,7 +197,7 @@ static bool random_payee(uint8_t *t, payment_kind kind, int mode)
 static bool random_payment(uint8_t *t, payment_kind kind, int mode)
 {
     uint64_t most = payments < 10 ? 100000000000000u : 10000000000000u;      /* Z3 has 15 digits */
-    uint64_t euros = any() % (one_in(3) ? most : one_in(3) ? 100u : 1000000u);
+    uint64_t euros = below(one_in(3) ? most : one_in(3) ? 100u : 1000000u);
     sample_t(t, kind, "ZZ", euros, (unsigned)below(100));
     if (euros == 0 && memcmp(t + 472, "00", 2) == 0)
         t[473] = '1';

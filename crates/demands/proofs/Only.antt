@@ -7,7 +7,7 @@ use mathlib.Core.Logic.{inl, inr}
 use native.Mathlib.Omega.{arith}
 use Rattle.structure.specs.Slots.{slotAt}
 use Rattle.demands.specs.Broken.{Broken, stage, walkRules, BrokenIn}
-use Rattle.demands.specs.Demand2.{First, FirstIsOne}
+use Rattle.demands.specs.Demand2.{FirstIsOne}
 use Rattle.demands.proofs.Alone.{one-number}
 use Rattle.demands.proofs.Demand2.{unfit-stage, content-stage}
 

@@ -1,6 +1,6 @@
 -- What prepare answers, by soundness, room and note places.
-use Prim.Native.Nat.{ℕ, _≤_, _<_}
-use mathlib.Core.Path.{_≡_, refl, sym, ap, subst, _∙_}
+use Prim.Native.Nat.{ℕ, _<_}
+use mathlib.Core.Path.{_≡_, refl, sym, ap, _∙_}
 use mathlib.Core.Bool.{Bool, true, false, cond}
 use mathlib.Core.List.{List}
 use mathlib.Core.Logic.{_⊎_, inl, inr}
@@ -15,9 +15,9 @@ use Rattle.forwarding.specs.Forwarded.{notesOf}
 use Rattle.prepare.specs.Prepared.{notPrepared, done, sendOf, prepareOf}
 use Rattle.prepare.specs.declared.Prepared.{Prepared}
 use Rattle.demands.specs.Demand1.{FileRule}
-use Rattle.demands.specs.Demand2.{Sound, Answered}
+use Rattle.demands.specs.Demand2.{Answered}
 use Rattle.demands.specs.Forwarding.{Exactly, PrepareExactly, PrepareAsJudged}
-use Rattle.demands.proofs.Demand1.{Told, told}
+use Rattle.demands.proofs.Demand1.{told}
 use Rattle.demands.proofs.Demand2.{judged}
 use Rattle.demands.proofs.Forwarding.{listed, listed-one}
 

@@ -1,5 +1,5 @@
 -- What the program tells of its input, and what the judge's answer to payroll hosts tells.
-use Prim.Native.Nat.{ℕ, _+_, _*_, _/_, _%_, _≤_, _<_}
+use Prim.Native.Nat.{ℕ, _+_, _*_, _≤_}
 use mathlib.Core.Path.{_≡_, refl, sym, ap, subst, _∙_}
 use mathlib.Core.Bool.{Bool, true, false, cond}
 use mathlib.Core.List.{List, []}
@@ -13,14 +13,11 @@ use Rattle.judge.specs.Small.{judge-small}
 use Rattle.judge.specs.Verdict.{refused, verdictOf, judgeOf}
 use Rattle.judge.specs.declared.Verdict.{Verdict}
 use Rattle.forwarding.specs.Forwarded.{notesOf}
-use Rattle.forwarding.specs.RoundTrip.{Bytes}
 use Rattle.report.specs.Annexes.{annexI, annexII}
 use Rattle.report.specs.Report.{lines, reportOf}
-use Rattle.report.specs.declared.Report.{Report}
 use Rattle.host.specs.Answers.{answerOf}
 use Rattle.demands.specs.Demand1.{FileRule, TellNumbers}
 use Rattle.demands.specs.Demand2.{Zeros}
-use Rattle.demands.specs.Forwarding.{Listed}
 use Rattle.demands.specs.Program.{Tells, TellAnswers, NeverShows, DeskJudgeTells}
 use Rattle.demands.proofs.Demand1.{told}
 use Rattle.demands.proofs.Prepare.{rule-below}

@@ -1,7 +1,7 @@
 -- Whether a field is there, by the walk: a file that is not refused fits, with n payments, and records 1 to n are its T records.
 use Prim.Native.Nat.{ℕ, _+_, _≤_}
 use Prim.Native.Char.{code}
-use mathlib.Core.Path.{_≡_, refl, sym, ap, subst, _∙_}
+use mathlib.Core.Path.{_≡_, refl, sym, ap, _∙_}
 use mathlib.Core.Bool.{Bool, true, false}
 use mathlib.Core.List.{List}
 use mathlib.Core.Logic.{_⊎_, inl, inr, ⊎-elim}
@@ -9,14 +9,13 @@ use native.Mathlib.Nat.{eq-or-lt-of-le}
 use native.Mathlib.Omega.{arith}
 use borrow.Author.Tests.{eqb-true, eqb-false}
 use lib.Dec.{eqb}
-use lib.ListN.{length}
 use Rattle.structure.specs.Slots.{slotAt}
 use Rattle.structure.specs.Walk.{letterOf, structureOf}
 use Rattle.structure.specs.Whole.{whole, letter-q, letter-t}
 use Rattle.structure.specs.Fits.{Fit, Tells, tells, fits}
 use Rattle.structure.specs.declared.Shape.{Shape}
 use Rattle.structure.specs.declared.Shape.the-variants.{Fits, Refused}
-use Rattle.demands.specs.Broken.{TooLong, Unfit, Due}
+use Rattle.demands.specs.Broken.{Due}
 use Rattle.demands.specs.Show.{Walked, There}
 use Rattle.demands.proofs.Turns.{told-first, due-walked, walked-due}
 use Rattle.demands.proofs.Fitting.{due-to, right-here, no-unfit}

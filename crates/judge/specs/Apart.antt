@@ -1,5 +1,5 @@
 -- Every file that fits is joined of its records: the slots of record 0, of records 1 to n, and of record n + 1.
-use Prim.Native.Nat.{ℕ, zero, suc, _+_, _*_, _-_, _≤_}
+use Prim.Native.Nat.{ℕ, zero, suc, _+_, _*_, _≤_}
 use mathlib.Core.Path.{_≡_, refl, sym, ap, ap₂, _∙_}
 use mathlib.Core.List.{List, [], _∷_, _++_, append-assoc}
 use native.Mathlib.Nat.{add-zero}
@@ -7,7 +7,7 @@ use native.Mathlib.Omega.{arith}
 use lib.ListN.{length, take, drop, length-drop, take-append-drop}
 use lib.Seq.{take-all, drop-drop}
 use Rattle.records.specs.Places.{recordAt}
-use Rattle.structure.specs.Slots.{widthAt, slotAt, place-is, later-width, q-long, t-long, z-long}
+use Rattle.structure.specs.Slots.{slotAt, place-is, later-width, q-long, t-long, z-long}
 use Rattle.structure.specs.Fits.{Fit}
 use Rattle.judge.specs.Records.{joined, fileOf, AllLong, MadeOf}
 

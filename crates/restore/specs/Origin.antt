@@ -7,7 +7,7 @@ use mathlib.Core.Path.{_≡_, refl, sym, ap, ap₂, subst, _∙_}
 use mathlib.Core.Bool.{Bool, true, false, _&&_, cond}
 use mathlib.Core.List.{List, []}
 use native.Mathlib.Omega.{arith}
-use borrow.Author.Tests.{eq-eqb, eqb-true, eqb-false, ltb-false}
+use borrow.Author.Tests.{eq-eqb, eqb-true, eqb-false}
 use lib.Dec.{eqb, ltb}
 use lib.ListN.{length, take, drop}
 use lib.Seq.{take-at}
@@ -22,7 +22,7 @@ use Rattle.prepare.specs.Prepared.{notPrepared, done, sendOf, prepareOf, Prepar
 use Rattle.prepare.specs.declared.Prepared.{Prepared}
 use Rattle.alike.specs.Files.{judged-alike}
 use Rattle.restore.specs.Yields.{SoundOrigin}
-use Rattle.restore.specs.Restored.{answer, isYielded, restoreOf, restoredInto, RestoredAs}
+use Rattle.restore.specs.Restored.{answer, isYielded, restoreOf, RestoredAs}
 use Rattle.restore.specs.declared.Restored.{Restored}
 
 module _ (page : ℕ) (transfer cheque : List ℕ) where
