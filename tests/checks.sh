@@ -8,13 +8,24 @@ both=target/tests/both
 # check NAME STATUS STREAM COMMAND..: the command ends with that status and prints what is stored in tests/cases/NAME on
 # that stream (out or err), and nothing on the other; with both, first the one's and then the other's
 check() {
-    local name=$1 status=$2 stream=$3 printed=$out silent=$err got=0 wrong=
-    shift 3
+    held "$1" "tests/cases/$1" "${@:2}"
+}
+
+# says LINE STATUS COMMAND..: the command ends with that status and says that line on standard error, and no more
+says() {
+    echo "$1" >target/tests/line
+    held "'$1'" target/tests/line "$2" err "${@:3}"
+}
+
+# held NAME FILE STATUS STREAM COMMAND..: what check and says have in common; the file is what has to be printed
+held() {
+    local name=$1 due=$2 status=$3 stream=$4 printed=$out silent=$err got=0 wrong=
+    shift 4
     "$@" >$out 2>$err || got=$?
     cat $out $err >$both
     if [ "$stream" = err ]; then printed=$err silent=$out; fi
     if [ "$stream" = both ]; then printed=$both silent=/dev/null; fi
-    cmp -s "$printed" "tests/cases/$name" || wrong="differs from tests/cases/$name"
+    cmp -s "$printed" "$due" || wrong="differs from $due: $(head -n 1 "$printed")"
     [ ! -s "$silent" ] || wrong="prints on the wrong stream: $(head -n 1 "$silent")"
     [ "$got" = "$status" ] || wrong="ends with status $got, not $status"
     if [ -n "$wrong" ]; then

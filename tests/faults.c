@@ -1,4 +1,4 @@
-/* Linked into both example hosts by tests/hosts, with ld's --wrap: faults that cannot be caused from outside. The word
+/* Linked into both example hosts by tests/hosts, with ld's --wrap: faults that are hard to cause from outside. The word
    in DESK_FAULT says which: with "restore" another byte comes back than went in, and any other word is a path to which
    nothing can be renamed. */
 #include "../hosts/c/desk.h"

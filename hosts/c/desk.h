@@ -65,9 +65,9 @@ typedef struct { uint64_t start, length; } desk_part;
 uint64_t desk_judge(const uint8_t *file, size_t n,
                     const uint8_t *transfer, size_t nt, const uint8_t *cheque, size_t nc);
 
-/* Judges a file, also by the taken file numbers. Number 0: record 0, with the number of payments, the sum of their
-   whole euros and the sum of their cents, which are not carried. Refused: the first broken rule and its record (record 0
-   for 50), and three zeros. */
+/* Judges a file, also by the taken file numbers; a file's number is its Q4, Q6 and Q7 as one number (docs/RULES.md, 5.6).
+   Number 0: record 0, with the number of payments, the sum of their whole euros and the sum of their cents, which are not
+   carried. Refused: the first broken rule and its record (record 0 for 50), and three zeros. */
 desk_judgement desk_judge_full(const uint8_t *file, size_t n,
                                const uint8_t *transfer, size_t nt, const uint8_t *cheque, size_t nc,
                                const uint64_t *taken, size_t taken_n);

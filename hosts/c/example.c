@@ -3,19 +3,17 @@
 
        example FILE [FORWARDED NOTES]
 
-   Its order is such that no failure costs a file:
-   1. FILE, FORWARDED and NOTES have to be three files, by whatever names. A target that is there already has to be a
-      regular file; step 5 replaces it.
+   It writes over nothing, and nothing that fails leaves anything behind:
+   1. FORWARDED and NOTES are two new files: what is there already is never replaced, FILE least of all.
    2. FILE is read, judged, prepared and restored in memory, and what is restored has to be the very file.
    3. All this is told. Where it cannot be printed nothing is written: no file goes on with changes that nobody saw.
    4. Notes and forwarded file are written, down to the disk, each to a new file beside its target: the target's name
-      with .new behind it. Where a file of that name is there already, as a killed run leaves it, it stays and the run
-      ends.
+      with .new behind it. Where such a file is there already, as a killed run leaves it, it stays and the run ends.
    5. When both are complete they are renamed to their targets, the notes first: no forwarded file is without them.
-   Where a step fails, the new files are removed and the targets are as they were; only where the very last renaming
-   fails are the new notes in place already.
+   Where a step fails, what it made is removed.
 
-   Status 0: sound, and all is done; 1: refused; 2: used wrongly, or something could not be read or written. */
+   In the notes file each note has four bytes, the lowest first. Status 0: sound, and all is done; 1: refused, or not
+   restored; 2: used wrongly, or something could not be read or written. */
 #define _POSIX_C_SOURCE 200809L
 #include "desk.h"
 
@@ -68,35 +66,25 @@ static char *joined(const char *text, size_t length, const char *end)
 
 static char *new_name(const char *path) { return joined(path, strlen(path), ".new"); }
 
-/* Where a path leads: to a file that is there, or to a name in a directory where there is none yet. */
+/* Where a new file is to be: its directory, and its name there. */
 typedef struct {
-    bool exists, regular;
-    dev_t device; /* the file's or, where there is none yet, its directory's */
+    dev_t device;
     ino_t inode;
-    const char *name; /* the path's last one */
+    const char *name;
 } location;
 
 /* Asks for the directory in which a path's last name stands. "/" keeps its slash; the empty path is in none. */
-static bool stat_directory(const char *path, const char *name, struct stat *status)
-{
-    char *directory = joined(path, (size_t)(name - path), name == path && *path ? "." : "");
-    bool found = stat(directory, status) == 0;
-    int why = errno;
-    free(directory);
-    return found || wrong(path, strerror(why));
-}
-
 static bool locate(const char *path, location *found)
 {
     struct stat status;
     const char *slash = strrchr(path, '/');
     found->name = slash ? slash + 1 : path;
-    found->exists = stat(path, &status) == 0;
-    if (!found->exists && errno != ENOENT)
-        return wrong(path, strerror(errno));
-    if (!found->exists && !stat_directory(path, found->name, &status))
-        return false;
-    found->regular = S_ISREG(status.st_mode);
+    char *directory = joined(path, (size_t)(found->name - path), !slash && *path ? "." : "");
+    bool is_there = stat(directory, &status) == 0;
+    int why = errno;
+    free(directory);
+    if (!is_there)
+        return wrong(path, strerror(why));
     found->device = status.st_dev;
     found->inode = status.st_ino;
     return true;
@@ -104,27 +92,30 @@ static bool locate(const char *path, location *found)
 
 static bool same(const location *a, const location *b)
 {
-    return a->exists == b->exists && a->device == b->device && a->inode == b->inode &&
-           (a->exists || strcmp(a->name, b->name) == 0);
+    return a->device == b->device && a->inode == b->inode && strcmp(a->name, b->name) == 0;
 }
 
-/* Whether the paths lead to different files, and the targets may be replaced. */
-static bool apart(const char *const paths[PATHS])
+/* Whether nothing stands at a path, not even a link that leads nowhere. */
+static bool is_free(const char *path)
+{
+    struct stat status;
+    if (lstat(path, &status) == 0)
+        return wrong(path, "is there already, and is not written over");
+    return errno == ENOENT || wrong(path, strerror(errno));
+}
+
+/* Whether all that will be written are new files, and different ones. */
+static bool are_new(const char *const paths[PATHS])
 {
     location at[PATHS];
-    for (int i = 0; i < PATHS; i++) {
-        if (!locate(paths[i], &at[i]))
+    for (int i = FORWARDED; i < PATHS; i++) {
+        if (!is_free(paths[i]) || !locate(paths[i], &at[i]))
             return false;
-        if ((i == FORWARDED || i == NOTES) && at[i].exists && !at[i].regular)
-            return wrong(paths[i], "not a regular file");
-        for (int j = 0; j < i; j++) {
-            if (!same(&at[i], &at[j]))
-                continue;
-            if (i > NOTES)
-                return wrong(paths[i], "this name is needed while writing; choose another");
-            fprintf(stderr, "%s and %s are the same file\n", paths[j], paths[i]);
-            return false;
-        }
+        for (int j = FORWARDED; j < i; j++)
+            if (same(&at[i], &at[j])) {
+                fprintf(stderr, "%s and %s are the same file\n", paths[j], paths[i]);
+                return false;
+            }
     }
     return true;
 }
@@ -182,7 +173,11 @@ static bool write_both(const char *const paths[PATHS], size_t n, uint64_t count)
         unlink(paths[NEW_FORWARDED]);
         return false;
     }
-    return put_in_place(paths[NEW_FORWARDED], paths[FORWARDED]);
+    if (!put_in_place(paths[NEW_FORWARDED], paths[FORWARDED])) {
+        unlink(paths[NOTES]);
+        return false;
+    }
+    return true;
 }
 
 /* The text field in which a changed place lies. The parts are those of Q and of the first T record: a call of desk_show
@@ -257,7 +252,7 @@ int main(int argc, char **argv)
     }
     size_t n = 0;
     uint64_t count = 0;
-    if ((writes && !apart(paths)) || !read_whole(paths[GIVEN], &n))
+    if ((writes && !are_new(paths)) || !read_whole(paths[GIVEN], &n))
         return 2;
     bool restorable = examine(n, &count);
     if (fflush(stdout) != 0 || ferror(stdout)) {

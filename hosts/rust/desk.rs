@@ -59,7 +59,8 @@ pub fn judge_code(file: &[u8], lists: Lists) -> u64 {
     }
 }
 
-/// Judges a file, also by the taken file numbers: 50, at record 0, comes after every other rule.
+/// Judges a file, also by the taken file numbers: 50, at record 0, comes after every other rule. A file's number is its Q4,
+/// Q6 and Q7 as one number (docs/RULES.md, 5.6).
 pub fn judge(file: &[u8], lists: Lists, taken: &[u64]) -> Result<Judgement, Refusal> {
     let Lists { transfer, cheque } = lists;
     // SAFETY: each pointer and count is one slice's.

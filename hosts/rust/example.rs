@@ -3,20 +3,18 @@
 //!
 //!     example FILE [FORWARDED NOTES]
 //!
-//! Its order is such that no failure costs a file:
-//! 1. FILE, FORWARDED and NOTES have to be three files, by whatever names. A target that is there already has to be a
-//!    regular file; step 5 replaces it.
+//! It writes over nothing, and nothing that fails leaves anything behind:
+//! 1. FORWARDED and NOTES are two new files: what is there already is never replaced, FILE least of all.
 //! 2. FILE is read, judged, prepared and restored in memory, and what is restored has to be the very file.
 //! 3. All this is told. Where it cannot be printed nothing is written: no file goes on with changes that nobody saw.
 //! 4. Notes and forwarded file are written, down to the disk, each to a new file beside its target: the target's name
-//!    with .new behind it. Where a file of that name is there already, as a killed run leaves it, it stays and the run
-//!    ends.
+//!    with .new behind it. Where such a file is there already, as a killed run leaves it, it stays and the run ends.
 //! 5. When both are complete they are renamed to their targets, the notes first: no forwarded file is without them.
 //!
-//! Where a step fails, the new files are removed and the targets are as they were; only where the very last renaming
-//! fails are the new notes in place already.
+//! Where a step fails, what it made is removed.
 //!
-//! Status 0: sound, and all is done; 1: refused; 2: used wrongly, or something could not be read or written.
+//! In the notes file each note has four bytes, the lowest first. Status 0: sound, and all is done; 1: refused, or not
+//! restored; 2: used wrongly, or something could not be read or written.
 
 #[allow(dead_code)] // not every call is made here
 mod desk;
@@ -65,7 +63,7 @@ fn main() -> ExitCode {
 /// The host's work; false where the file is refused.
 fn run(path: &Path, targets: Option<Targets>) -> Result<bool, Failure> {
     if let Some(targets) = &targets {
-        targets.are_apart_from(path)?;
+        targets.are_new()?;
     }
     let file = read(path)?;
     let mut out = BufWriter::new(io::stdout());
@@ -166,23 +164,14 @@ impl Targets {
         }
     }
 
-    /// Asks that all paths lead to different files, and that the targets may be replaced.
-    fn are_apart_from(&self, file: &Path) -> Result<(), Failure> {
+    /// Asks that all that will be written are new files, and different ones.
+    fn are_new(&self) -> Result<(), Failure> {
         let mut before: Vec<(&Path, Location)> = Vec::new();
-        for (path, is_target) in [(file, false), (&self.forwarded, true), (&self.notes, true)] {
+        for path in [&self.forwarded, &self.notes, &self.new_forwarded, &self.new_notes] {
+            is_free(path)?;
             let location = locate(path)?;
-            if is_target && matches!(location, Location::File { regular: false, .. }) {
-                return Err(wrong(path, "not a regular file"));
-            }
             if let Some((other, _)) = before.iter().find(|(_, found)| *found == location) {
-                return Err(joined(&[other, &" and ", &path, &" are the same file"]));
-            }
-            before.push((path, location));
-        }
-        for path in [&self.new_forwarded, &self.new_notes] {
-            let location = locate(path)?;
-            if before.iter().any(|(_, found)| *found == location) {
-                return Err(wrong(path, "this name is needed while writing; choose another"));
+                return Err(joined(&[other, &" and ", path, &" are the same file"]));
             }
             before.push((path, location));
         }
@@ -196,25 +185,29 @@ impl Targets {
         write_new(&self.new_forwarded, &outgoing.forwarded)
             .map_err(|failure| removed(&self.new_notes, failure))?;
         put_in_place(&self.new_notes, &self.notes).map_err(|failure| removed(&self.new_forwarded, failure))?;
-        put_in_place(&self.new_forwarded, &self.forwarded)
+        put_in_place(&self.new_forwarded, &self.forwarded).map_err(|failure| removed(&self.notes, failure))
     }
 }
 
-/// Where a path leads: to a file that is there, or to a name in a directory where there is none yet.
+/// Where a new file is to be: its directory, and its name there.
 #[derive(PartialEq)]
-enum Location {
-    File { device: u64, inode: u64, regular: bool },
-    Name { device: u64, inode: u64, name: OsString },
+struct Location {
+    device: u64,
+    inode: u64,
+    name: OsString,
 }
 
 fn locate(path: &Path) -> Result<Location, Failure> {
-    match fs::metadata(path) {
-        Ok(file) => Ok(Location::File { device: file.dev(), inode: file.ino(), regular: file.is_file() }),
-        Err(error) if error.kind() == ErrorKind::NotFound => {
-            let (directory, name) = split(path);
-            let directory = fs::metadata(directory).map_err(|error| failed(path, &error))?;
-            Ok(Location::Name { device: directory.dev(), inode: directory.ino(), name: name.to_owned() })
-        }
+    let (directory, name) = split(path);
+    let directory = fs::metadata(directory).map_err(|error| failed(path, &error))?;
+    Ok(Location { device: directory.dev(), inode: directory.ino(), name: name.to_owned() })
+}
+
+/// Asks that nothing stands at a path, not even a link that leads nowhere.
+fn is_free(path: &Path) -> Result<(), Failure> {
+    match fs::symlink_metadata(path) {
+        Ok(_) => Err(wrong(path, "is there already, and is not written over")),
+        Err(error) if error.kind() == ErrorKind::NotFound => Ok(()),
         Err(error) => Err(failed(path, &error)),
     }
 }
@@ -242,9 +235,9 @@ fn put_in_place(new_path: &Path, path: &Path) -> Result<(), Failure> {
     fs::rename(new_path, path).map_err(|error| removed(new_path, failed(path, &error)))
 }
 
-/// The failure, with the new file removed for which there is no use after it.
-fn removed(new_path: &Path, failure: Failure) -> Failure {
-    let _ = fs::remove_file(new_path); // what failed first is what is told
+/// The failure, with the file removed for which there is no use after it.
+fn removed(path: &Path, failure: Failure) -> Failure {
+    let _ = fs::remove_file(path); // what failed first is what is told
     failure
 }
 
