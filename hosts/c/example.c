@@ -12,7 +12,7 @@
    5. When both are complete they are renamed to their targets, the notes first: no forwarded file is without them.
    Where a step fails, what it made is removed.
 
-   In the notes file each note has four bytes, the lowest first. Status 0: sound, and all is done; 1: refused, or not
+   In the notes file each note has four bytes, little-endian. Status 0: sound, and all is done; 1: refused, or not
    restored; 2: used wrongly, or something could not be read or written. */
 #define _POSIX_C_SOURCE 200809L
 #include "desk.h"

@@ -13,7 +13,7 @@
 //!
 //! Where a step fails, what it made is removed.
 //!
-//! In the notes file each note has four bytes, the lowest first. Status 0: sound, and all is done; 1: refused, or not
+//! In the notes file each note has four bytes, little-endian. Status 0: sound, and all is done; 1: refused, or not
 //! restored; 2: used wrongly, or something could not be read or written.
 
 #[allow(dead_code)] // not every call is made here
