@@ -71,6 +71,7 @@ static void random_case(void)
     if (one_in(4)) {
         random_rule_alone();
         random_pair_of_rules();
+        random_near_miss();
         return;
     }
     if (one_in(3)) {

@@ -38,6 +38,7 @@ void spoil_structure(void);                         /* of the draft; what is the
    characters in the short fields, numbers of payments. */
 void near_misses(void);
 void sweep(void);
+void random_near_miss(void);                        /* with the annexes */
 
 
 #endif

@@ -135,17 +135,16 @@ static void judge_draft(uint64_t rule, uint64_t record)
     judge();
 }
 
-static void each_byte_at(const stretch *s, char who, size_t record, int at)
+/* The draft with one other byte; with one of the other calls now and then. */
+static void judge_with_byte(const stretch *s, char who, size_t record, int at, unsigned byte)
 {
     uint8_t *r = record_of(record), old = r[at];
-    for (unsigned byte = 0; byte < 256; byte++) {
-        r[at] = (uint8_t)byte;
-        unsigned rule = rule_broken(s, who, at, old, r);
-        size_t told = rule >= 40 ? Z_RECORD : rule == 21 ? 2 : record;
-        judge_draft(rule, told);
-        if ((byte + (unsigned)at) % 64 == 0)
-            another_call(byte / 64, rule, rule ? told : 0);
-    }
+    r[at] = (uint8_t)byte;
+    unsigned rule = rule_broken(s, who, at, old, r);
+    size_t told = rule >= 40 ? Z_RECORD : rule == 21 ? 2 : record;
+    judge_draft(rule, told);
+    if ((byte + (unsigned)at) % 64 == 0)
+        another_call(byte / 64, rule, rule ? told : 0);
     r[at] = old;
 }
 
@@ -154,8 +153,8 @@ static void each_byte_of(char who, size_t record, int first, int last)
 {
     for (const stretch *s = stretches; s < stretches + sizeof stretches / sizeof stretches[0]; s++)
         for (int at = s->first; strchr(s->who, who) && at <= s->last; at++)
-            if (at >= first && at <= last)
-                each_byte_at(s, who, record, at);
+            for (unsigned byte = 0; byte < 256 && at >= first && at <= last; byte++)
+                judge_with_byte(s, who, record, at, byte);
 }
 
 /* The whole file, and then T8 to T9b, T21 and T22 of the other transfers, which differ there alone. */
@@ -172,6 +171,20 @@ static void each_byte(void)
     one_transfer_one_cheque(CODE_AND_BANK);
     each_byte_of('c', 1, 53, 206);
     each_byte_of('c', 1, 648, 651);
+}
+
+static void random_byte(void)
+{
+    static const payment_kind kinds[3] = {BIC_ALONE, BIC_AND_COUNTRY, CODE_AND_BANK};
+    static const char transfers[] = "blc";
+    size_t kind = below(3), record = below(4);
+    char who = record == 0 ? 'Q' : record == 1 ? transfers[kind] : record == 2 ? 's' : 'Z';
+    int at = (int)below(who == 'Q' || who == 'Z' ? 256 : 768);
+    unsigned byte = (unsigned)below(256);
+    one_transfer_one_cheque(kinds[kind]);
+    for (const stretch *s = stretches; s < stretches + sizeof stretches / sizeof stretches[0]; s++)
+        if (strchr(s->who, who) && at >= s->first && at <= s->last)
+            judge_with_byte(s, who, record, at, byte);
 }
 
 /* ---- Every byte value at every place of text ------------------------------------------------- */
@@ -324,15 +337,21 @@ static const mistake mistakes[] = {
     {3, 5, "000000000000000", 42}, {3, 5, "199000000000000", 42},
 };
 
+enum { MISTAKES = sizeof mistakes / sizeof mistakes[0] };
+
+static void make_mistake(const mistake *m)
+{
+    one_transfer_one_cheque(BIC_ALONE);
+    put(record_of(m->record) + m->at, m->bytes);
+    judge_draft(m->rule, m->record);
+    for (size_t turn = 0; turn < 4; turn++)
+        another_call(turn, m->rule, m->rule ? m->record : 0);
+}
+
 static void each_mistake(void)
 {
-    for (const mistake *m = mistakes; m < mistakes + sizeof mistakes / sizeof mistakes[0]; m++) {
-        one_transfer_one_cheque(BIC_ALONE);
-        put(record_of(m->record) + m->at, m->bytes);
-        judge_draft(m->rule, m->record);
-        for (size_t turn = 0; turn < 4; turn++)
-            another_call(turn, m->rule, m->rule ? m->record : 0);
-    }
+    for (size_t i = 0; i < MISTAKES; i++)
+        make_mistake(&mistakes[i]);
 }
 
 /* ---- Totals that a narrower or a shorter number would take for right -------------------------- */
@@ -449,6 +468,13 @@ static void each_long_list(void)
         }
     }
     use_annexes();
+}
+
+void random_near_miss(void)
+{
+    for (int k = 0; k < 8; k++)
+        random_byte();
+    make_mistake(&mistakes[below(MISTAKES)]);
 }
 
 void near_misses(void)
