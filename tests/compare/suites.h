@@ -40,5 +40,4 @@ void near_misses(void);
 void sweep(void);
 void random_near_miss(void);                        /* with the annexes */
 
-
 #endif
