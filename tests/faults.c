@@ -1,12 +1,13 @@
 /* Linked into both example hosts by tests/hosts, with ld's --wrap: faults that are hard to cause from outside. The word
-   in DESK_FAULT says which: with "restore" another byte comes back than went in, and any other word is a path to which
-   nothing can be renamed. */
+   in DESK_FAULT says which: with "restore" another byte comes back than went in; with "order" nothing can be renamed to
+   new-forwarded while new-notes is not there; and any other word is a path to which nothing can be renamed. */
 #include "../hosts/c/desk.h"
 
 #include <errno.h>
 #include <stdbool.h>
 #include <stdlib.h>
 #include <string.h>
+#include <unistd.h>
 
 desk_restored __real_desk_restore(const uint8_t *forwarded, size_t n, const uint32_t *notes, size_t notes_n,
                                   const uint8_t *transfer, size_t nt, const uint8_t *cheque, size_t nc,
@@ -31,7 +32,8 @@ desk_restored __wrap_desk_restore(const uint8_t *forwarded, size_t n, const uint
 
 int __wrap_rename(const char *from, const char *to)
 {
-    if (fault_is(to)) {
+    bool too_early = fault_is("order") && strcmp(to, "new-forwarded") == 0 && access("new-notes", F_OK) != 0;
+    if (fault_is(to) || too_early) {
         errno = EBUSY;
         return -1;
     }
