@@ -28,9 +28,17 @@ use Rattle.judge.specs.declared.Verdict.{Verdict}
 use Rattle.demands.specs.Broken.{TooLong, Unfit, Wrong, Broken, Before, stage, walkRules, BrokenIn}
 use Rattle.demands.specs.Demand1.{ContentRule}
 use Rattle.demands.specs.Demand2.{Sound, Answered, Judged}
+use Rattle.demands.specs.Where.{Points}
 use Rattle.demands.proofs.Ranges.{q-range, t-range, z-range, stage-content, stage-walk}
 use Rattle.demands.proofs.Turns.{FirstIn, told-first, walk-range, right-whole, due-walked, walked-due}
 use Rattle.demands.proofs.Fitting.{due-to, due-here, right-here, no-unfit, says-is}
+use Rattle.demands.proofs.Where.{points, points-nowhere}
+
+-- content rules begin at 10
+pub low : (m : ℕ) → ContentRule m → 10 ≤ m
+low m (inl r) = r .0
+low m (inr (inl r)) = omega (arith, r .0)
+low m (inr (inr r)) = omega (arith, r .0)
 
 module _ (page : ℕ) (transfer cheque file : List ℕ) where
   -- rule 1 is broken by long files alone
@@ -55,12 +63,7 @@ module _ (page : ℕ) (transfer cheque file : List ℕ) where
       go false false f = let r = z-range (j - 1) (euroSum file (j - 1)) (slotAt file j) m f in inr (inr (r .0, omega (arith, r .1)))
 
   pub content-stage : (m j i : ℕ) → Wrong page transfer cheque file m j i → stage m ≡ 2
-  content-stage m j i w = stage-content m (low (content-rule m j i w))
-    where
-      low : ContentRule m → 10 ≤ m
-      low (inl r) = r .0
-      low (inr (inl r)) = omega (arith, r .0)
-      low (inr (inr r)) = omega (arith, r .0)
+  content-stage m j i w = stage-content m (low m (content-rule m j i w))
 
   module _ (n : ℕ) (short : length file ≤ 7679744) (fit : Fit file n) where
     F : ℕ → ℕ → ℕ
@@ -136,32 +139,40 @@ module _ (page : ℕ) (transfer cheque file : List ℕ) where
           let below : m < answer .number = omega (arith, w .turn, l) in
           f (ap (λ (k : ℕ). F k m) q ∙ found .rules-before m (subst (λ (k : ℕ). ruleFrom n k ≤ m) q (r .0)) below)
 
+      place : Points page transfer cheque file (answer .number) (answer .rec) (answer .at)
+      unfolding F
+      place =
+          points page transfer cheque file (answer .number) (answer .rec) (answer .at) (low (answer .number) (content-rule (answer .number) (answer .rec) (answer .number) there)) (there .broken)
+          (found .place ∙ sym (says-is file n fit page transfer cheque (answer .number) (answer .rec) (omega (arith, found .below))))
+
     of-fits : Answered page transfer cheque file (unless answer (sound n (euroSum file n) (centSum file n)) .number)
-        (unless answer (sound n (euroSum file n) (centSum file n)) .rec)
+        (unless answer (sound n (euroSum file n) (centSum file n)) .rec) (unless answer (sound n (euroSum file n) (centSum file n)) .at)
     of-fits = go (eqb (answer .number) 0) refl
       where
         v : Bool → Verdict
-        v t = cond t (sound n (euroSum file n) (centSum file n)) (refused (answer .number) (answer .rec))
+        v t = cond t (sound n (euroSum file n) (centSum file n)) (refused (answer .number) (answer .rec) (answer .at))
 
-        go : (t : Bool) → eqb (answer .number) 0 ≡ t → Answered page transfer cheque file (v t .number) (v t .rec)
+        go : (t : Bool) → eqb (answer .number) 0 ≡ t → Answered page transfer cheque file (v t .number) (v t .rec) (v t .at)
         go true e =
             let none : Sound page transfer cheque file = λ m j i b. none-wrong (eqb-true (answer .number) 0 e) m j i (is-wrong m j i b) in
-            record { sound = (λ z. none, λ f. refl); first = λ ne. absurd (ne refl) }
+            record { sound = (λ z. none, λ f. refl); first = λ ne. absurd (ne refl); place = points-nowhere page transfer cheque file 0 0 (omega arith) }
         go false e =
             let ne = eqb-false (answer .number) 0 e in
             let here : Broken page transfer cheque file (answer .number) (answer .rec) (answer .number) = inr (inr (there ne)) in
             record {
               sound = (λ z. absurd (ne z), λ none. absurd (none (answer .number) (answer .rec) (answer .number) here));
               first = λ f. record { turn = answer .number; there = here; none-before = λ m j i b x. none-before ne m j i b (is-wrong m j i x) };
+              place = place ne;
             }
 
   -- a file that is too long
-  of-long : 7679744 < length file → Answered page transfer cheque file 1 0
+  of-long : 7679744 < length file → Answered page transfer cheque file 1 0 0
   of-long l =
       let here : Broken page transfer cheque file 1 0 0 = inl (record { rule = refl; first-record = refl; first-turn = refl; long = l }) in
       record {
         sound = (λ z. absurd (omega (arith, z)), λ none. absurd (none 1 0 0 here));
         first = λ f. record { turn = 0; there = here; none-before = λ m j i b x. none-first m j i b };
+        place = points-nowhere page transfer cheque file 1 0 (omega arith);
       }
     where
       none-first : (m j i : ℕ) → Before m j i 1 0 0 → ⊥
@@ -170,11 +181,12 @@ module _ (page : ℕ) (transfer cheque file : List ℕ) where
       none-first m j i (inr (e, inr (q, l))) = omega arith
 
   -- a record that the walk cannot pass
-  of-stuck : (number rec : ℕ) → length file ≤ 7679744 → Stuck file number rec → Answered page transfer cheque file number rec
+  of-stuck : (number rec : ℕ) → length file ≤ 7679744 → Stuck file number rec → Answered page transfer cheque file number rec 0
   of-stuck number rec short s =
       record {
         sound = (λ z. absurd (s .real z), λ none. absurd (none number rec (f .turn) here));
         first = λ z. record { turn = f .turn; there = here; none-before = none-before };
+        place = points-nowhere page transfer cheque file number rec (walk-range rec (slotAt file rec) (f .turn) number (f .there) .1);
       }
     where
       f : FirstIn (walkRules rec (slotAt file rec)) number
@@ -202,15 +214,15 @@ pub judged : Judged
 unfolding contentOf answer F
 judged page transfer cheque file = go (structureOf file) refl (tells file)
   where
-    by : (v : Verdict) → v ≡ verdictOf page file transfer cheque → Answered page transfer cheque file (v .number) (v .rec)
-        → Answered page transfer cheque file (verdictOf page file transfer cheque .number) (verdictOf page file transfer cheque .rec)
-    by v e a = subst (λ (w : Verdict). Answered page transfer cheque file (w .number) (w .rec)) e a
+    by : (v : Verdict) → v ≡ verdictOf page file transfer cheque → Answered page transfer cheque file (v .number) (v .rec) (v .at)
+        → Answered page transfer cheque file (verdictOf page file transfer cheque .number) (verdictOf page file transfer cheque .rec) (verdictOf page file transfer cheque .at)
+    by v e a = subst (λ (w : Verdict). Answered page transfer cheque file (w .number) (w .rec) (w .at)) e a
 
     go : (s : Shape) → structureOf file ≡ s → Tells file s
-        → Answered page transfer cheque file (verdictOf page file transfer cheque .number) (verdictOf page file transfer cheque .rec)
+        → Answered page transfer cheque file (verdictOf page file transfer cheque .number) (verdictOf page file transfer cheque .rec) (verdictOf page file transfer cheque .at)
     go (Fits n) e t = by _ (told-fits page file transfer cheque n e) (of-fits page transfer cheque file n (t .0) (t .1))
     go (Refused number rec) e (inl t) =
         by _ (told-refused page file transfer cheque number rec e)
-        (subst₂ (Answered page transfer cheque file) (sym (t .1)) (sym (t .2)) (of-long page transfer cheque file (t .0)))
+        (subst₂ (λ (m k : ℕ). Answered page transfer cheque file m k 0) (sym (t .1)) (sym (t .2)) (of-long page transfer cheque file (t .0)))
     go (Refused number rec) e (inr t) =
         by _ (told-refused page file transfer cheque number rec e) (of-stuck page transfer cheque file number rec (t .0) (t .1))

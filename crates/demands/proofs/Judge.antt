@@ -4,6 +4,7 @@ use Prim.Native.Nat.{ℕ, _+_}
 use mathlib.Core.Path.{_≡_, refl, sym, ap, ap₂, subst, _∙_}
 use mathlib.Core.Bool.{Bool, true, false, cond, false≢true}
 use mathlib.Core.List.{List}
+use native.Mathlib.Omega.{arith}
 use borrow.Author.Tests.{eqb-true, eqb-false}
 use lib.Dec.{eqb}
 use lib.ListN.{length}
@@ -30,15 +31,15 @@ module _ (fault : Breach) (v : Verdict) where
   unless-sound : v .number ≡ 0 → unless fault v .number ≡ 0 → unless fault v ≡ v
   unless-sound z = go (eqb (fault .number) 0) refl
     where
-      go : (t : Bool) → eqb (fault .number) 0 ≡ t → cond t v (refused (fault .number) (fault .rec)) .number ≡ 0
-          → cond t v (refused (fault .number) (fault .rec)) ≡ v
+      go : (t : Bool) → eqb (fault .number) 0 ≡ t → cond t v (refused (fault .number) (fault .rec) (fault .at)) .number ≡ 0
+          → cond t v (refused (fault .number) (fault .rec) (fault .at)) ≡ v
       go true e q = refl
       go false e q = absurd (eqb-false _ _ e q)
 
   unless-zeros : v .number ≡ 0 → (unless fault v .number ≡ 0 → ⊥) → Zeros (unless fault v)
   unless-zeros z = go (eqb (fault .number) 0)
     where
-      go : (t : Bool) → (cond t v (refused (fault .number) (fault .rec)) .number ≡ 0 → ⊥) → Zeros (cond t v (refused (fault .number) (fault .rec)))
+      go : (t : Bool) → (cond t v (refused (fault .number) (fault .rec) (fault .at)) .number ≡ 0 → ⊥) → Zeros (cond t v (refused (fault .number) (fault .rec) (fault .at)))
       go true n = absurd (n z)
       go false n = (refl, refl, refl)
 
@@ -93,22 +94,22 @@ judges file transfer cheque taken = go (eqb (v .number) 0) (isTaken taken (fileN
     v : Verdict
     v = verdictOf 0 file transfer cheque
 
-    a : Answered 0 transfer cheque file (verdictOf 0 file transfer cheque .number) (verdictOf 0 file transfer cheque .rec)
+    a : Answered 0 transfer cheque file (verdictOf 0 file transfer cheque .number) (verdictOf 0 file transfer cheque .rec) (verdictOf 0 file transfer cheque .at)
     a = judged 0 transfer cheque file
 
     go : (zero used : Bool) → eqb (verdictOf 0 file transfer cheque .number) 0 ≡ zero → isTaken taken (fileNumber (slotAt file 0)) ≡ used
-        → Judges transfer cheque taken file (cond zero (cond used (refused 50 0) (verdictOf 0 file transfer cheque)) (verdictOf 0 file transfer cheque))
+        → Judges transfer cheque taken file (cond zero (cond used (refused 50 0 0) (verdictOf 0 file transfer cheque)) (verdictOf 0 file transfer cheque))
     go true true e t =
         record {
           free = λ s f. absurd (false≢true (sym f ∙ t));
-          used = λ s u. (refl, refl, (refl, refl, refl));
+          used = λ s u. (refl, refl, refl, (refl, refl, refl));
           unsound = λ n. absurd (n (a .sound .0 (eqb-true _ _ e)));
         }
     go true false e t =
         let z = eqb-true _ _ e in
         let told = sound-told file transfer cheque z in
         record {
-          free = λ s f. (z, told .0, told .1);
+          free = λ s f. (z, told .0, a .place .nowhere (omega (arith, z)), told .1);
           used = λ s u. absurd (false≢true (sym t ∙ u));
           unsound = λ n. absurd (n (a .sound .0 z));
         }
@@ -117,7 +118,7 @@ judges file transfer cheque taken = go (eqb (v .number) 0) (isTaken taken (fileN
         record {
           free = λ s f. absurd (ne (a .sound .1 s));
           used = λ s u. absurd (ne (a .sound .1 s));
-          unsound = λ n. (a .first ne, refused-zeros file transfer cheque ne);
+          unsound = λ n. (a .first ne, a .place, refused-zeros file transfer cheque ne);
         }
 
 pub judge-answers : JudgeAnswers

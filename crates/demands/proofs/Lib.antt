@@ -3,6 +3,7 @@ pub mod Alone
 pub mod Ranges
 pub mod Turns
 pub mod Fitting
+pub mod Where
 pub mod Demand2
 pub mod Only
 pub mod Demand1
@@ -15,5 +16,6 @@ pub mod There
 pub mod Show
 pub mod Settled
 pub mod Program
+pub mod Pointed
 pub mod ShutOut
 pub mod Widths

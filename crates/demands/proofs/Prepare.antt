@@ -38,7 +38,7 @@ module _ (file transfer cheque out notes : List ℕ) where
   exactly =
       go (eqb (verdictOf 0 file transfer cheque .number) 0) (ltb (length out) (length file)) (ltb (length notes) (length (notesOf 0 file))) refl refl refl
     where
-      a : Answered 0 transfer cheque file (verdictOf 0 file transfer cheque .number) (verdictOf 0 file transfer cheque .rec)
+      a : Answered 0 transfer cheque file (verdictOf 0 file transfer cheque .number) (verdictOf 0 file transfer cheque .rec) (verdictOf 0 file transfer cheque .at)
       a = judged 0 transfer cheque file
 
       go : (sound short few : Bool) → eqb (verdictOf 0 file transfer cheque .number) 0 ≡ sound → ltb (length out) (length file) ≡ short

@@ -47,7 +47,7 @@ module _ (input : List ℕ) where
 
       go : (over : Bool)
           → ToldNumber
-          (cond over (lines (refused 6 0) 0)
+          (cond over (lines (refused 6 0 0) 0)
           (lines (judgeOf input annexII annexI []) (cond (eqb (judgeOf input annexII annexI [] .number) 0) (length (notesOf 0 input)) 0)) .verdict)
       go true = inr (inr refl)
       go false = rw verdict-is (rule _ (told input annexII annexI))
@@ -60,10 +60,10 @@ module _ (input : List ℕ) where
       zeros n = subst Zeros (sym verdict-is) (refused-zeros input annexII annexI (λ z. n (ap (λ (w : Verdict). w .number) verdict-is ∙ z)))
 
       go : (over zero : Bool) → ltb 65024 (length input) ≡ over → eqb (judgeOf input annexII annexI [] .number) 0 ≡ zero
-          → Tells input (cond over (lines (refused 6 0) 0) (lines (judgeOf input annexII annexI []) (cond zero (length (notesOf 0 input)) 0)))
+          → Tells input (cond over (lines (refused 6 0 0) 0) (lines (judgeOf input annexII annexI []) (cond zero (length (notesOf 0 input)) 0)))
       go true zero p q =
           record {
-            over = λ l. (refl, refl);
+            over = λ l. (refl, refl, refl);
             judged = λ s. absurd (omega (arith, ltb-true 65024 (length input) p));
             counted = λ b changes list z. absurd (omega (arith, z));
             refused = λ n. (refl, refl, refl, refl);

@@ -1,5 +1,6 @@
 -- Demand 2: "A file is sound exactly when it breaks no rule; otherwise the answer is the first broken rule in the stated
--- order, with its record." (RULES 7) And what the judge answers of it (RULES 9.2).
+-- order, with its record." (RULES 7) With the place in it that document 02, A1, asks for. And what the judge answers of it
+-- (RULES 9.2).
 use Prim.Native.Nat.{ℕ}
 use mathlib.Core.Path.{_≡_}
 use mathlib.Core.List.{List}
@@ -13,6 +14,7 @@ use Rattle.judge.specs.Records.{MadeOf, sumOf}
 use Rattle.judge.specs.Verdict.{verdictOf, JudgedAs}
 use Rattle.judge.specs.declared.Verdict.{Verdict}
 use Rattle.demands.specs.Broken.{Broken, Before}
+use Rattle.demands.specs.Where.{Points}
 
 -- the file breaks no rule, at any record
 abbrev pub Sound : ℕ → List ℕ → List ℕ → List ℕ → Type 0
@@ -25,14 +27,16 @@ module _ (page : ℕ) (transfer cheque file : List ℕ) (number rec : ℕ) where
     pub there : Broken page transfer cheque file number rec turn
     pub none-before : (m j i : ℕ) → Before m j i number rec turn → Broken page transfer cheque file m j i → ⊥
 
-  pub record Answered : Type 0 where
+  pub record Answered (at : ℕ) : Type 0 where
     pub sound : (number ≡ 0) ↔ Sound page transfer cheque file
     pub first : (number ≡ 0 → ⊥) → First
+    pub place : Points page transfer cheque file number rec at
 
 abbrev pub Judged : Type 0
 Judged =
     (page : ℕ) (transfer cheque file : List ℕ)
-    → Answered page transfer cheque file (verdictOf page file transfer cheque .number) (verdictOf page file transfer cheque .rec)
+    → let v = verdictOf page file transfer cheque in
+    Answered page transfer cheque file (v .number) (v .rec) (v .at)
 
 -- there is one first broken rule at most
 abbrev pub FirstIsOne : Type 0
@@ -58,10 +62,12 @@ Zeros answer = (answer .payments ≡ 0) × (answer .euros ≡ 0) × (answer .cen
 module _ (transfer cheque taken file : List ℕ) where
   pub record Judges (answer : Verdict) : Type 0 where
     pub free : Sound 0 transfer cheque file → isTaken taken (fileNumber (slotAt file 0)) ≡ false
-        → (answer .number ≡ 0) × (answer .rec ≡ 0) × Counted file answer
+        → (answer .number ≡ 0) × (answer .rec ≡ 0) × (answer .at ≡ 0) × Counted file answer
     pub used : Sound 0 transfer cheque file → isTaken taken (fileNumber (slotAt file 0)) ≡ true
-        → (answer .number ≡ 50) × (answer .rec ≡ 0) × Zeros answer
-    pub unsound : (Sound 0 transfer cheque file → ⊥) → First 0 transfer cheque file (answer .number) (answer .rec) × Zeros answer
+        → (answer .number ≡ 50) × (answer .rec ≡ 0) × (answer .at ≡ 0) × Zeros answer
+    pub unsound : (Sound 0 transfer cheque file → ⊥)
+        → First 0 transfer cheque file (answer .number) (answer .rec)
+        × Points 0 transfer cheque file (answer .number) (answer .rec) (answer .at) × Zeros answer
 
 abbrev pub JudgeAnswers : Type 0
 JudgeAnswers =

@@ -1,6 +1,7 @@
 pub mod Sample
 pub mod Cases
 pub mod Broken
+pub mod Where
 pub mod Demand1
 pub mod Demand2
 pub mod Forwarding

@@ -18,10 +18,10 @@ use Rattle.demands.specs.Forwarding.{Listed}
 -- what a report says of the file
 abbrev pub verdictIn : Report → Verdict
 verdictIn answer =
-    record { number = answer .verdict; rec = answer .rec; payments = answer .payments; euros = answer .euros; cents = answer .cents }
+    record { number = answer .verdict; rec = answer .rec; at = answer .at; payments = answer .payments; euros = answer .euros; cents = answer .cents }
 
 pub record Tells (input : List ℕ) (answer : Report) : Type 0 where
-  pub over : 65024 < length input → (answer .verdict ≡ 6) × (answer .rec ≡ 0)
+  pub over : 65024 < length input → (answer .verdict ≡ 6) × (answer .rec ≡ 0) × (answer .at ≡ 0)
   pub judged : length input ≤ 65024 → JudgedAs input annexII annexI [] (verdictIn answer)
   pub counted : Bytes input → (changes : List ℕ) → Listed 0 input changes → answer .verdict ≡ 0 → answer .changes ≡ length changes
   pub refused : (answer .verdict ≡ 0 → ⊥)

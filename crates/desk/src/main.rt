@@ -1,4 +1,4 @@
-// The desk: reads a file on standard input and prints what it finds of it, in six lines.
+// The desk: reads a file on standard input and prints what it finds of it, in seven lines.
 use libc::STDIN_FILENO;
 use libc::STDOUT_FILENO;
 use report::Report;
@@ -59,6 +59,7 @@ fn print_line(name: &[u8], n: u64) {
 fn print_report(r: Report) {
     print_line(b"verdict=", r.verdict as u64);
     print_line(b"record=", r.rec as u64);
+    print_line(b"at=", r.at as u64);
     print_line(b"payments=", r.payments as u64);
     print_line(b"euros=", r.euros);
     print_line(b"cents=", r.cents);

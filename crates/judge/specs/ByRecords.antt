@@ -35,7 +35,7 @@ use Rattle.judge.specs.ByKind.{of-q, of-t, of-z}
 unless-number : (b : Breach) (v : Verdict) → v .number ≡ 0 → unless b v .number ≡ b .number
 unless-number b v z = go (eqb (b .number) 0) refl
   where
-    go : (t : Bool) → eqb (b .number) 0 ≡ t → cond t v (refused (b .number) (b .rec)) .number ≡ b .number
+    go : (t : Bool) → eqb (b .number) 0 ≡ t → cond t v (refused (b .number) (b .rec) (b .at)) .number ≡ b .number
     go true e = z ∙ sym (eqb-true (b .number) 0 e)
     go false e = refl
 

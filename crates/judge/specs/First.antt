@@ -1,7 +1,7 @@
 -- The first broken rule (RULES 7): in a run of rules, and in a run of records with rules each. `F k rule` is what rule
 -- says of record k: 0, or the place of the field that breaks it.
 use Prim.Native.Nat.{ℕ, _<_}
-use mathlib.Core.Path.{_≡_, refl}
+use mathlib.Core.Path.{_≡_, refl, ap, _∙_}
 use mathlib.Core.Bool.{Bool, not}
 use native.Mathlib.Omega.{arith}
 use lib.Dec.{eqb}
@@ -20,20 +20,21 @@ abbrev pub faulty : (ℕ → ℕ → ℕ) → (ℕ → ℕ) → (ℕ → ℕ) �
 faulty F lo hi k = not (eqb (firstRule F lo hi k) 0)
 
 abbrev pub toldAt : (ℕ → ℕ → ℕ) → (ℕ → ℕ) → (ℕ → ℕ) → ℕ → Breach
-toldAt F lo hi k = record { number = firstRule F lo hi k; rec = k }
+toldAt F lo hi k = record { number = firstRule F lo hi k; rec = k; at = F k (firstRule F lo hi k) }
 
 abbrev pub none : Breach
-none = record { number = 0; rec = 0 }
+none = record { number = 0; rec = 0; at = 0 }
 
 -- the first broken rule of the first record that breaks one, of the records below n
 abbrev pub firstBroken : (ℕ → ℕ → ℕ) → (ℕ → ℕ) → (ℕ → ℕ) → ℕ → Breach
 firstBroken F lo hi n = first (faulty F lo hi) (toldAt F lo hi) none 0 n
 
-pub same-fault : {a b c d : ℕ} → a ≡ c → b ≡ d → _≡_ {A = Breach} (record { number = a; rec = b }) (record { number = c; rec = d })
-same-fault p q i = record { number = p i; rec = q i }
+pub same-fault : {a b c d e f : ℕ} → a ≡ d → b ≡ e → c ≡ f
+    → _≡_ {A = Breach} (record { number = a; rec = b; at = c }) (record { number = d; rec = e; at = f })
+same-fault p q r i = record { number = p i; rec = q i; at = r i }
 
--- a record whose first broken rule is known is told so
-pub found : (F : ℕ → ℕ → ℕ) (lo hi : ℕ → ℕ) (k rule : ℕ) (rest : Breach) → 0 < rule → rule ≡ firstRule F lo hi k
-    → record { number = rule; rec = k } ≡ orElse (faulty F lo hi) (toldAt F lo hi) k rest
-found F lo hi k rule rest p e =
-    on-ne {r = firstRule F lo hi k} rest refl (λ q. omega arith) (same-fault e refl)
+-- a record whose first broken rule is known is told so, with the place that the rule answers
+pub found : (F : ℕ → ℕ → ℕ) (lo hi : ℕ → ℕ) (k rule place : ℕ) (rest : Breach) → 0 < rule → rule ≡ firstRule F lo hi k → place ≡ F k rule
+    → record { number = rule; rec = k; at = place } ≡ orElse (faulty F lo hi) (toldAt F lo hi) k rest
+found F lo hi k rule place rest p e q =
+    on-ne {r = firstRule F lo hi k} rest refl (λ z. omega arith) (same-fault e refl (q ∙ ap (F k) e))

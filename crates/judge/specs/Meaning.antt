@@ -22,12 +22,13 @@ module _ (F : ℕ → ℕ → ℕ) (lo hi : ℕ → ℕ) (pos : (k : ℕ) → 0 
   abbrev pub Holds : ℕ → Type 0
   Holds k = (r : ℕ) → lo k ≤ r → r < hi k → F k r ≡ 0
 
-  -- b is broken, and none before it is
+  -- b is broken, with the place that its rule answers, and none before it is
   pub record FirstBroken (n : ℕ) (b : Breach) : Type 0 where
     pub below : b .rec < n
     pub rule-from : lo (b .rec) ≤ b .number
     pub rule-below : b .number < hi (b .rec)
     pub broken : F (b .rec) (b .number) ≡ 0 → ⊥
+    pub place : b .at ≡ F (b .rec) (b .number)
     pub records-before : (k : ℕ) → k < b .rec → Holds k
     pub rules-before : (r : ℕ) → lo (b .rec) ≤ r → r < b .number → F (b .rec) r ≡ 0
 
@@ -47,7 +48,7 @@ module _ (F : ℕ → ℕ → ℕ) (lo hi : ℕ → ℕ) (pos : (k : ℕ) → 0 
   rule-at n k l f h = by (firstRule F lo hi k) f (means (breaks F k) (λ r. r) 0 (lo k) (hi k))
     where
       by : (v : ℕ) → (v ≡ 0 → ⊥) → Means (breaks F k) (λ r. r) 0 (lo k) (hi k) v
-          → FirstBroken n (record { number = v; rec = k })
+          → FirstBroken n (record { number = v; rec = k; at = F k v })
       by v f (inl p) = absurd (f (p .0))
       by v f (inr p) =
           record {
@@ -55,6 +56,7 @@ module _ (F : ℕ → ℕ → ℕ) (lo hi : ℕ → ℕ) (pos : (k : ℕ) → 0 
             rule-from = omega (arith, p .answer, p .above);
             rule-below = omega (arith, p .answer, p .below);
             broken = λ e. not-zero (F k (p .place)) (p .holds) (ap (F k) (sym (p .answer)) ∙ e);
+            place = refl;
             records-before = h;
             rules-before = λ r a b. is-zero (F k r) (p .before r a (omega (arith, p .answer)));
           }

@@ -64,7 +64,7 @@ module _ (page : ℕ) (file transfer cheque : List ℕ) where
   verdict-small = go (structureOf file) (tells file)
     where
       fits-small : (n : ℕ) → n ≤ 9999 → (b : Bool) → eqb (contentOf page file n (euroSum file n) transfer cheque .number) 0 ≡ b
-          → Small (cond b (sound n (euroSum file n) (centSum file n)) (refused (contentOf page file n (euroSum file n) transfer cheque .number) (contentOf page file n (euroSum file n) transfer cheque .rec)))
+          → Small (cond b (sound n (euroSum file n) (centSum file n)) (refused (contentOf page file n (euroSum file n) transfer cheque .number) (contentOf page file n (euroSum file n) transfer cheque .rec) (contentOf page file n (euroSum file n) transfer cheque .at)))
       fits-small n most true e = (lit≤ tt, lit≤ tt)
       fits-small n most false e = content-small n most (eqb-false _ _ e)
 
@@ -80,4 +80,4 @@ judge-small file transfer cheque taken =
     let v = verdictOf 0 file transfer cheque in
     let s = verdict-small 0 file transfer cheque in
     either Small (eqb (v .number) 0) _ v
-    (either Small (isTaken taken (fileNumber (slotAt file 0))) (refused 50 0) v (lit≤ tt, lit≤ tt) s) s
+    (either Small (isTaken taken (fileNumber (slotAt file 0))) (refused 50 0 0) v (lit≤ tt, lit≤ tt) s) s

@@ -19,7 +19,7 @@ use Rattle.judge.specs.declared.Breach.{Breach}
 use Rattle.judge.specs.declared.Verdict.{Verdict}
 
 module _ (page : ℕ) (file transfer cheque : List ℕ) where
-  pub told-refused : (number rec : ℕ) → structureOf file ≡ Refused number rec → refused number rec ≡ verdictOf page file transfer cheque
+  pub told-refused : (number rec : ℕ) → structureOf file ≡ Refused number rec → refused number rec 0 ≡ verdictOf page file transfer cheque
   unfolding verdictOf
   told-refused number rec e = ap (λ (s : Shape). verdictBy s page file transfer cheque) (sym e)
 
@@ -38,8 +38,8 @@ module _ (page : ℕ) (file transfer cheque : List ℕ) where
     pub told-sound : b .number ≡ 0 → sound n euros cents ≡ verdictOf page file transfer cheque
     told-sound z = on-eq _ z refl ∙ by-content
 
-    pub told-broken : (b .number ≡ 0 → ⊥) → refused (b .number) (b .rec) ≡ verdictOf page file transfer cheque
-    told-broken z = off-eq {y = refused (b .number) (b .rec)} (sound n euros cents) z refl ∙ by-content
+    pub told-broken : (b .number ≡ 0 → ⊥) → refused (b .number) (b .rec) (b .at) ≡ verdictOf page file transfer cheque
+    told-broken z = off-eq {y = refused (b .number) (b .rec) (b .at)} (sound n euros cents) z refl ∙ by-content
 
   -- what is not refused fits
   pub sound-fits : verdictOf page file transfer cheque .number ≡ 0 → (n : ℕ) × (structureOf file ≡ Fits n) × Fit file n
@@ -65,8 +65,8 @@ module _ (file transfer cheque taken : List ℕ) {v : Verdict} (e : v ≡ verdic
     is-taken : t ≡ isTaken taken (fileNumber (slotAt file 0))
     is-taken = r ∙ ap (isTaken taken) (p ∙ ap fileNumber s)
 
-    pub judged-taken : t ≡ true → refused 50 0 ≡ judgeOf file transfer cheque taken
+    pub judged-taken : t ≡ true → refused 50 0 0 ≡ judgeOf file transfer cheque taken
     judged-taken y = by-verdict (on-eq _ z (on-call _ is-taken y refl))
 
     pub judged-free : t ≡ false → v ≡ judgeOf file transfer cheque taken
-    judged-free y = by-verdict (on-eq _ z (off-call (refused 50 0) is-taken y refl))
+    judged-free y = by-verdict (on-eq _ z (off-call (refused 50 0 0) is-taken y refl))

@@ -15,20 +15,20 @@ use Rattle.judge.specs.declared.Breach.{Breach}
 use Rattle.judge.specs.declared.Verdict.{Verdict}
 
 -- "If refused, these three are 0."
-abbrev pub refused : ℕ → ℕ → Verdict
-refused number rec = record { number = number; rec = rec; payments = 0; euros = 0; cents = 0 }
+abbrev pub refused : ℕ → ℕ → ℕ → Verdict
+refused number rec at = record { number = number; rec = rec; at = at; payments = 0; euros = 0; cents = 0 }
 
 -- "if 0, record 0, the number of payments, the euro sum of T14a and the cent sum"
 abbrev pub sound : ℕ → ℕ → ℕ → Verdict
-sound payments euros cents = record { number = 0; rec = 0; payments = payments; euros = euros; cents = cents }
+sound payments euros cents = record { number = 0; rec = 0; at = 0; payments = payments; euros = euros; cents = cents }
 
 -- the refusal of the first broken rule, or else the answer of a sound file
 abbrev pub unless : Breach → Verdict → Verdict
-unless fault verdict = cond (eqb (fault .number) 0) verdict (refused (fault .number) (fault .rec))
+unless fault verdict = cond (eqb (fault .number) 0) verdict (refused (fault .number) (fault .rec) (fault .at))
 
 -- the number and the values of each case of the walk
 abbrev pub verdictBy : Shape → ℕ → List ℕ → List ℕ → List ℕ → Verdict
-verdictBy (Refused number rec) page file transfer cheque = refused number rec
+verdictBy (Refused number rec) page file transfer cheque = refused number rec 0
 verdictBy (Fits n) page file transfer cheque =
     unless (contentOf page file n (euroSum file n) transfer cheque) (sound n (euroSum file n) (centSum file n))
 
@@ -39,7 +39,7 @@ verdictOf page file transfer cheque = verdictBy (structureOf file) page file tra
 -- "Rule 50 belongs to the judge alone and comes after all others"; "For 50, the record is 0." (RULES 7, 8)
 abbrev pub orTaken : Verdict → List ℕ → List ℕ → Verdict
 orTaken verdict file taken =
-    cond (eqb (verdict .number) 0) (cond (isTaken taken (fileNumber (slotAt file 0))) (refused 50 0) verdict) verdict
+    cond (eqb (verdict .number) 0) (cond (isTaken taken (fileNumber (slotAt file 0))) (refused 50 0 0) verdict) verdict
 
 -- the calls of document 01 read text on page 0
 unfoldable pub judgeOf : List ℕ → List ℕ → List ℕ → List ℕ → Verdict

@@ -11,17 +11,20 @@ ghost use Rattle.judge.specs.Content.{faultOf, ruleFrom, ruleEnd, conten
 ghost use Rattle.judge.specs.Sums.{euros, cents, euroSum, centSum, fileNumber};
 ghost use Rattle.judge.specs.Verdict.{refused, verdictOf, JudgedAs};
 
-// The first broken rule and its record; number 0 where none is broken.
+// The first broken rule, its record, and the place there of the field that breaks it; zeros where none is broken.
 pub struct Breach {
     pub number: usize,
     pub rec: usize,
+    pub at: usize,
 }
 
-// The judge's answer. Number 0: sound, with the payments and both sums. Else the broken rule, its record, and zeros.
+// The judge's answer. Number 0: sound, with the payments and both sums. Else the broken rule, its record, the place there
+// of the field that breaks it, and zeros.
 #[repr(C)]
 pub struct Verdict {
     pub number: usize,
     pub rec: usize,
+    pub at: usize,
     pub payments: usize,
     pub euros: u64,
     pub cents: u64,
@@ -84,21 +87,24 @@ fn content(page: u32, file: &[u8], n: usize, euros: u64, transfer: &[u8], cheque
 {
     let mut number = 0;
     let mut rec = 0;
+    let mut at = 0;
     let mut k = 0;
     'records: while k < n + 2 {
         let mut rule = rule_from(n, k);
         let end = rule_end(n, k);
         while rule < end {
-            if fault(page, file, n, euros, transfer, cheque, k, rule) != 0 {
+            let place = fault(page, file, n, euros, transfer, cheque, k, rule);
+            if place != 0 {
                 number = rule;
                 rec = k;
+                at = place;
                 break 'records;
             }
             rule += 1;
         }
         k += 1;
     }
-    Breach { number, rec }
+    Breach { number, rec, at }
 }
 
 // What a payment adds to the sums: whole euros, and cents.
@@ -150,12 +156,13 @@ fn number_of(q: &[u8]) -> u64
     q4 * 100000000 + q6 * 100 + q7
 }
 
-fn refusal(number: usize, rec: usize) -> Verdict
-    ensures { λ r. ⌜ r ≡ refused number rec ⌝ }
+fn refusal(number: usize, rec: usize, at: usize) -> Verdict
+    ensures { λ r. ⌜ r ≡ refused number rec at ⌝ }
 {
     Verdict {
         number,
         rec,
+        at,
         payments: 0,
         euros: 0,
         cents: 0,
@@ -167,17 +174,18 @@ pub fn examine(page: u32, file: &[u8], transfer: &[u8], cheque: &[u8]) -> Verdic
     ensures { λ r. ⌜ r ≡ verdictOf page (now (file .entry)) (now (transfer .entry)) (now (cheque .entry)) ⌝ }
 {
     match structure::walk(file) {
-        Shape::Refused(number, rec) => refusal(number, rec),
+        Shape::Refused(number, rec) => refusal(number, rec, 0),
         Shape::Fits(n) => {
             let sums = sum(file, n);
             let broken = content(page, file, n, sums.euros, transfer, cheque);
             let number = broken.number;
             if number != 0 {
-                return refusal(number, broken.rec);
+                return refusal(number, broken.rec, broken.at);
             }
             Verdict {
                 number: 0,
                 rec: 0,
+                at: 0,
                 payments: n,
                 euros: sums.euros,
                 cents: sums.cents,
@@ -196,7 +204,7 @@ pub fn judge(file: &[u8], transfer: &[u8], cheque: &[u8], taken: &[u64]) -> Verd
         return found;
     }
     if fields::taken(taken, number_of(structure::slot(file, 0))) {
-        return refusal(50, 0);
+        return refusal(50, 0, 0);
     }
     found
 }

@@ -13,17 +13,17 @@ use Rattle.forwarding.specs.Forwarded.{notesOf}
 use Rattle.report.specs.Annexes.{annexI, annexII}
 use Rattle.report.specs.declared.Report.{Report}
 
--- the six lines
+-- the seven lines: document 02, A1: "the program prints `at=` after `record=`"
 abbrev pub lines : Verdict → ℕ → Report
 lines v changes =
-    record { verdict = v .number; rec = v .rec; payments = v .payments; euros = v .euros; cents = v .cents; changes = changes }
+    record { verdict = v .number; rec = v .rec; at = v .at; payments = v .payments; euros = v .euros; cents = v .cents; changes = changes }
 
 unfoldable pub reportOf : List ℕ → Report
 reportOf input =
-    cond (ltb 65024 (length input)) (lines (refused 6 0) 0)
+    cond (ltb 65024 (length input)) (lines (refused 6 0 0) 0)
     (let v = judgeOf input annexII annexI [] in
     lines v (cond (eqb (v .number) 0) (length (notesOf 0 input)) 0))
 
--- what is promised of telling: the six numbers, for every input
+-- what is promised of telling: the seven numbers, for every input
 abbrev pub ToldAs : List ℕ → Report → Type 0
 ToldAs input answer = answer ≡ reportOf input

@@ -1,4 +1,4 @@
--- The six lines by what the judge found: v is its answer to an input that the program holds.
+-- The seven lines by what the judge found: v is its answer to an input that the program holds.
 use Prim.Native.Nat.{ℕ, _≤_, _<_}
 use mathlib.Core.Path.{_≡_, refl, sym, ap, _∙_}
 use mathlib.Core.Bool.{Bool, true, false, cond}
@@ -28,12 +28,12 @@ judged-sound file transfer cheque taken z = go (eqb (v .number) 0) refl z
     v = verdictOf 0 file transfer cheque
 
     go : (b : Bool) → eqb (v .number) 0 ≡ b
-        → cond b (cond (isTaken taken (fileNumber (slotAt file 0))) (refused 50 0) v) v .number ≡ 0
+        → cond b (cond (isTaken taken (fileNumber (slotAt file 0))) (refused 50 0 0) v) v .number ≡ 0
         → v .number ≡ 0
     go true e z = eqb-true (v .number) 0 e
     go false e z = z
 
-pub told-long : (input : List ℕ) → 65024 < length input → lines (refused 6 0) 0 ≡ reportOf input
+pub told-long : (input : List ℕ) → 65024 < length input → lines (refused 6 0 0) 0 ≡ reportOf input
 unfolding reportOf
 told-long input h = on-lt _ h refl
 

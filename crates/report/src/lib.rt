@@ -1,4 +1,4 @@
-// What the program says of its input: the six numbers of document 01.
+// What the program says of its input: its seven numbers.
 use judge::Verdict;
 ghost use mathlib.Core.Path.{_≡_};
 ghost use Rattle.report.specs.Report.{lines, ToldAs};
@@ -22,6 +22,7 @@ const ROOM: usize = 65024;
 pub struct Report {
     pub verdict: usize,
     pub rec: usize,
+    pub at: usize,
     pub payments: usize,
     pub euros: u64,
     pub cents: u64,
@@ -34,6 +35,7 @@ fn lines(found: Verdict, changes: usize) -> Report
     Report {
         verdict: found.number,
         rec: found.rec,
+        at: found.at,
         payments: found.payments,
         euros: found.euros,
         cents: found.cents,
@@ -48,6 +50,7 @@ pub fn tell(input: &[u8]) -> Report
         let over = Verdict {
             number: 6,
             rec: 0,
+            at: 0,
             payments: 0,
             euros: 0,
             cents: 0,

@@ -9,8 +9,12 @@ use Rattle.records.specs.Places.{part, lineOf}
 use Rattle.records.specs.declared.Span.{Span}
 use Rattle.fields.specs.Class.{blank}
 
+-- the fields that a rule reads, each by its offset and whether it is as it should be
+abbrev pub Fields : Type 0
+Fields = List (ℕ × Bool)
+
 -- the offset of the first field that is not as it should be
-abbrev pub firstWrong : List (ℕ × Bool) → ℕ
+abbrev pub firstWrong : Fields → ℕ
 firstWrong [] = 0
 firstWrong (row ∷ rows) = cond (row .1) (firstWrong rows) (row .0)
 
