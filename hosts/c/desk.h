@@ -55,7 +55,7 @@ enum desk_number {
     DESK_NO_SUCH_PAIR = 70         /* restore: no sound file yields this pair */
 };
 
-typedef struct { uint64_t number, record, payments, euros, cents; } desk_judgement;
+typedef struct { uint64_t number, record, at, payments, euros, cents; } desk_judgement;
 typedef struct { uint64_t number, record, notes; } desk_prepared;
 typedef struct { uint64_t number, record; } desk_restored;
 typedef struct { uint64_t start, length; } desk_part;
@@ -66,8 +66,10 @@ uint64_t desk_judge(const uint8_t *file, size_t n,
                     const uint8_t *transfer, size_t nt, const uint8_t *cheque, size_t nc);
 
 /* Judges a file, also by the taken file numbers; a file's number is its Q4, Q6 and Q7 as one number (docs/RULES.md, 5.6).
-   Number 0: record 0, with the number of payments, the sum of their whole euros and the sum of their cents, which are not
-   carried. Refused: the first broken rule and its record (record 0 for 50), and three zeros. */
+   Number 0: record and at 0, with the number of payments, the sum of their whole euros and the sum of their cents, which
+   are not carried. Refused: the first broken rule, its record, at, and three zeros. at is the offset, in that record, of
+   the lowest-placed field that breaks the rule (words.h has its name and columns); it is 0 for rules 1 to 5. For 50 record
+   and at are 0. */
 desk_judgement desk_judge_full(const uint8_t *file, size_t n,
                                const uint8_t *transfer, size_t nt, const uint8_t *cheque, size_t nc,
                                const uint64_t *taken, size_t taken_n);
