@@ -1,4 +1,4 @@
-//! Tests of hosts/rust/desk.rs on the samples: each call and the ways in which it answers, and the words of the refusals.
+//! Tests of hosts/rust/desk.rs on the samples: each call and the ways in which it answers.
 
 #[path = "../hosts/rust/desk.rs"]
 mod desk;
@@ -11,8 +11,8 @@ const CHEQUES: &[u8] = include_bytes!("../samples/cheques.dtazv");
 const LISTS: Lists = Lists { transfer: b"BRAUCL", cheque: b"VEPE" };
 const SWAPPED: Lists = Lists { transfer: LISTS.cheque, cheque: LISTS.transfer };
 
-fn refused<T>(number: u64, record: u64) -> Result<T, Refusal> {
-    Err(Refusal { number, record })
+fn refused<T>(number: u64, record: u64, at: u64) -> Result<T, Refusal> {
+    Err(Refusal { number, record, at })
 }
 
 #[test]
@@ -23,14 +23,14 @@ fn judges() {
     let sound = Judgement { payments: 3, euros: 1199, cents: 125 };
     assert_eq!(desk::judge(SOUND, LISTS, &[]), Ok(sound));
     assert_eq!(desk::judge(SOUND, LISTS, &[7, 1226111602]), Ok(sound));
-    assert_eq!(desk::judge(SOUND, LISTS, &[7, 1226111601]), refused(50, 0));
-    assert_eq!(desk::judge(SOUND, SWAPPED, &[]), refused(28, 1));
+    assert_eq!(desk::judge(SOUND, LISTS, &[7, 1226111601]), refused(50, 0, 0));
+    assert_eq!(desk::judge(SOUND, SWAPPED, &[]), refused(28, 1, 207));
     let cheques = Judgement { payments: 2, euros: 349, cents: 90 };
     assert_eq!(desk::judge(CHEQUES, LISTS, &[1226111601]), Ok(cheques));
-    assert_eq!(desk::judge(CHEQUES, LISTS, &[1226111602]), refused(50, 0));
-    assert_eq!(desk::judge(CHEQUES, SWAPPED, &[]), refused(28, 1));
-    assert_eq!(desk::judge(REFUSED, LISTS, &[]), refused(42, 4));
-    assert_eq!(desk::judge(&[], LISTS, &[]), refused(2, 0));
+    assert_eq!(desk::judge(CHEQUES, LISTS, &[1226111602]), refused(50, 0, 0));
+    assert_eq!(desk::judge(CHEQUES, SWAPPED, &[]), refused(28, 1, 207));
+    assert_eq!(desk::judge(REFUSED, LISTS, &[]), refused(42, 4, 5));
+    assert_eq!(desk::judge(&[], LISTS, &[]), refused(2, 0, 0));
 }
 
 #[test]
@@ -42,9 +42,9 @@ fn prepares_and_restores() {
         assert_eq!(Note::from(note), Note { place, original: SOUND[place] });
     }
     let (forwarded, mut back) = (&out[..SOUND.len()], vec![7; SOUND.len() + 1]);
-    assert_eq!(desk::restore(forwarded, &notes, LISTS, &mut back), refused(70, 0));
-    assert_eq!(desk::restore(forwarded, &notes[..3], SWAPPED, &mut back), refused(70, 0));
-    assert_eq!(desk::restore(forwarded, &notes[..3], LISTS, &mut back[1..SOUND.len()]), refused(60, 0));
+    assert_eq!(desk::restore(forwarded, &notes, LISTS, &mut back), refused(70, 0, 0));
+    assert_eq!(desk::restore(forwarded, &notes[..3], SWAPPED, &mut back), refused(70, 0, 0));
+    assert_eq!(desk::restore(forwarded, &notes[..3], LISTS, &mut back[1..SOUND.len()]), refused(60, 0, 0));
     assert!(back.iter().all(|&byte| byte == 7));
     assert_eq!(desk::restore(forwarded, &notes[..3], LISTS, &mut back), Ok(()));
     assert_eq!(back, [SOUND, &[7]].concat());
@@ -53,10 +53,10 @@ fn prepares_and_restores() {
 #[test]
 fn refused_prepare_changes_nothing() {
     let (mut out, mut notes) = (vec![7; SOUND.len()], [9; 3]);
-    assert_eq!(desk::prepare(REFUSED, LISTS, &mut out, &mut notes), refused(42, 4));
-    assert_eq!(desk::prepare(SOUND, SWAPPED, &mut out, &mut notes), refused(28, 1));
-    assert_eq!(desk::prepare(SOUND, LISTS, &mut out[1..], &mut notes), refused(60, 0));
-    assert_eq!(desk::prepare(SOUND, LISTS, &mut out, &mut notes[1..]), refused(61, 0));
+    assert_eq!(desk::prepare(REFUSED, LISTS, &mut out, &mut notes), refused(42, 4, 0));
+    assert_eq!(desk::prepare(SOUND, SWAPPED, &mut out, &mut notes), refused(28, 1, 0));
+    assert_eq!(desk::prepare(SOUND, LISTS, &mut out[1..], &mut notes), refused(60, 0, 0));
+    assert_eq!(desk::prepare(SOUND, LISTS, &mut out, &mut notes[1..]), refused(61, 0, 0));
     assert!(out.iter().all(|&byte| byte == 7) && notes == [9; 3]);
 }
 
@@ -76,21 +76,4 @@ fn shows_the_very_part() {
         assert_eq!(desk::show(&SOUND[1..], record, field), None);
     }
     assert_eq!(Field::ALL.map(|field| field.to_string()).join(" "), "Q5 T8 T9b T10b T12 T15 T20 T23 T24");
-}
-
-/// README.md's table has the same words; 6 is the program's alone.
-#[test]
-fn words() {
-    let mut told = 0;
-    for row in include_str!("../README.md").lines() {
-        let cells: Vec<&str> = row.split(" | ").collect();
-        let number = cells[0].strip_prefix("| ").and_then(|digits| digits.parse().ok());
-        if let (Some(number), [_, words]) = (number.filter(|&number| number != 6), &cells[..]) {
-            assert_eq!(format!("{} |", Refusal { number, record: 0 }.words()), *words);
-            told += 1;
-        }
-    }
-    assert_eq!(told, 35);
-    let refusal = Refusal { number: 15, record: 0 };
-    assert_eq!(refusal.to_string(), "rule 15 at record 0: Q9 is not N");
 }

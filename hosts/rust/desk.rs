@@ -22,11 +22,22 @@ pub struct Judgement {
     pub cents: u64,
 }
 
-/// The first broken rule, and the record at which it is broken: Q is 0, payments count from 1, Z is last.
+/// The first broken rule, the record at which it is broken (Q is 0, payments count from 1, Z is last), and the offset in
+/// that record of the lowest-placed field that breaks it. Only `judge` tells this place, and only for rules 10 to 42; else
+/// `at` is 0.
 #[derive(Clone, Copy, Debug, PartialEq, Eq)]
 pub struct Refusal {
     pub number: u64,
     pub record: u64,
+    pub at: u64,
+}
+
+/// A field's name, and its columns as a clerk counts them: from 1, and the last is included.
+#[derive(Clone, Copy, Debug, PartialEq, Eq)]
+pub struct Columns {
+    pub field: &'static str,
+    pub first: u64,
+    pub last: u64,
 }
 
 /// A note of a changed character: its place in the file, and the byte that was there.
@@ -76,8 +87,8 @@ pub fn judge(file: &[u8], lists: Lists, taken: &[u64]) -> Result<Judgement, Refu
             taken.len(),
         )
     };
-    let c::Judged { number, record, payments, euros, cents } = judged;
-    answer(number, record, Judgement { payments, euros, cents })
+    let c::Judged { number, record, at, payments, euros, cents } = judged;
+    answer(Refusal { number, record, at }, Judgement { payments, euros, cents })
 }
 
 /// Prepares a file for forwarding, and answers how many notes there are. `out` then begins with the forwarded file, and
@@ -100,7 +111,8 @@ pub fn prepare(file: &[u8], lists: Lists, out: &mut [u8], notes: &mut [u32]) -> 
             notes.len(),
         )
     };
-    answer(prepared.number, prepared.record, prepared.notes as usize)
+    let c::Prepared { number, record, notes } = prepared;
+    answer(Refusal { number, record, at: 0 }, notes as usize)
 }
 
 /// Restores the file that was prepared, from the forwarded file and all of its notes: `out` then begins with it, and the
@@ -122,7 +134,8 @@ pub fn restore(forwarded: &[u8], notes: &[u32], lists: Lists, out: &mut [u8]) ->
             out.len(),
         )
     };
-    answer(restored.number, restored.record, ())
+    let c::Restored { number, record } = restored;
+    answer(Refusal { number, record, at: 0 }, ())
 }
 
 /// A text field as it was written: the very part of the file. `None` where the structure is broken, the record doesn't
@@ -137,6 +150,13 @@ pub fn place(file: &[u8], record: u64, field: Field) -> Option<Range<usize>> {
     let part = unsafe { c::desk_show(file.as_ptr(), file.len(), record, field as u64) };
     let start = part.start as usize;
     (part.length > 0).then(|| start..start + part.length as usize)
+}
+
+/// The field of a record of kind `Q`, `T` or `Z` in which an offset lies. `None` where it lies in none: in the length
+/// digits, in the letter, or beyond the record.
+pub fn columns_at(kind: char, offset: u64) -> Option<Columns> {
+    let fields = FIELDS.iter().map(|&(field, first, last)| Columns { field, first, last });
+    fields.filter(|row| row.field.starts_with(kind)).find(|row| offset < row.last && offset + 1 >= row.first)
 }
 
 impl Field {
@@ -160,16 +180,54 @@ impl From<u32> for Note {
 }
 
 impl Refusal {
-    /// When the rule is broken, in words.
+    /// When the rule is broken, or why else the call is refused.
     pub fn words(&self) -> &'static str {
         let row = WORDS.iter().find(|row| row.0 == self.number);
         row.map_or("no rule of the desk", |row| row.1)
     }
+
+    /// The kind of record that breaks the rule.
+    pub fn kind(&self) -> Option<char> {
+        match self.number {
+            10..=16 => Some('Q'),
+            20..=35 => Some('T'),
+            40..=42 => Some('Z'),
+            _ => None,
+        }
+    }
+
+    /// The lowest-placed field that breaks the rule, where the refusal tells its place.
+    pub fn columns(&self) -> Option<Columns> {
+        columns_at(self.kind()?, self.at)
+    }
 }
 
+/// In one line: `rule 15 at record 0, Q9, column 178: Q9 is not N`. A number that is no rule of a file (50 to 70) has no
+/// record there.
 impl fmt::Display for Refusal {
     fn fmt(&self, f: &mut fmt::Formatter) -> fmt::Result {
-        write!(f, "rule {} at record {}: {}", self.number, self.record, self.words())
+        let Refusal { number, record, .. } = self;
+        let is_rule = self.kind().is_some() || *number <= 5;
+        if is_rule {
+            write!(f, "rule {number} at record {record}")?;
+        } else {
+            write!(f, "number {number}")?;
+        }
+        if let Some(columns) = self.columns() {
+            write!(f, ", {columns}")?;
+        }
+        write!(f, ": {}", self.words())
+    }
+}
+
+impl fmt::Display for Columns {
+    fn fmt(&self, f: &mut fmt::Formatter) -> fmt::Result {
+        let Columns { field, first, last } = self;
+        if first == last {
+            write!(f, "{field}, column {first}")
+        } else {
+            write!(f, "{field}, columns {first} to {last}")
+        }
     }
 }
 
@@ -214,11 +272,58 @@ const WORDS: [(u64, &str); 35] = [
     (70, "restore: no sound file yields this pair"),
 ];
 
+/// The fields of docs/RULES.md, 2: name, first and last column. A name begins with the letter of its record's kind.
+const FIELDS: [(&str, u64, u64); 43] = [
+    ("Q3", 6, 13),
+    ("Q4", 14, 23),
+    ("Q5", 24, 163),
+    ("Q6", 164, 169),
+    ("Q7", 170, 171),
+    ("Q8", 172, 177),
+    ("Q9", 178, 178),
+    ("Q10", 179, 180),
+    ("Q11", 181, 188),
+    ("Q12", 189, 256),
+    ("T3", 6, 13),
+    ("T4a", 14, 16),
+    ("T4b", 17, 26),
+    ("T5", 27, 32),
+    ("T6", 33, 40),
+    ("T7a", 41, 43),
+    ("T7b", 44, 53),
+    ("T8", 54, 64),
+    ("T9a", 65, 67),
+    ("T9b", 68, 207),
+    ("T10a", 208, 210),
+    ("T10b", 211, 350),
+    ("T11", 351, 420),
+    ("T12", 421, 455),
+    ("T13", 456, 458),
+    ("T14a", 459, 472),
+    ("T14b", 473, 475),
+    ("T15", 476, 615),
+    ("T16", 616, 617),
+    ("T17", 618, 619),
+    ("T18", 620, 621),
+    ("T19", 622, 623),
+    ("T20", 624, 648),
+    ("T21", 649, 650),
+    ("T22", 651, 652),
+    ("T23", 653, 679),
+    ("T24", 680, 714),
+    ("T25", 715, 715),
+    ("T26", 716, 766),
+    ("T27", 767, 768),
+    ("Z3", 6, 20),
+    ("Z4", 21, 35),
+    ("Z5", 36, 256),
+];
+
 /// A call's answer where its number is 0, and otherwise the refusal.
-fn answer<T>(number: u64, record: u64, sound: T) -> Result<T, Refusal> {
-    match number {
+fn answer<T>(refusal: Refusal, sound: T) -> Result<T, Refusal> {
+    match refusal.number {
         0 => Ok(sound),
-        _ => Err(Refusal { number, record }),
+        _ => Err(refusal),
     }
 }
 
@@ -228,6 +333,7 @@ mod c {
     pub struct Judged {
         pub number: u64,
         pub record: u64,
+        pub at: u64,
         pub payments: u64,
         pub euros: u64,
         pub cents: u64,

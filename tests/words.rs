@@ -1,0 +1,142 @@
+//! Tests of what hosts/rust/desk.rs and hosts/c/words.c both have: the refusals' words, held to README.md, the fields'
+//! columns, held to the places of crates/records, and a refusal in one line.
+
+#[allow(dead_code)] // no call is made here
+#[path = "../hosts/rust/desk.rs"]
+mod desk;
+
+use desk::{Columns, Refusal};
+use std::collections::HashMap;
+
+/// README.md's table: the words of each number; 6 is the program's alone.
+fn readme() -> HashMap<u64, &'static str> {
+    let rows = include_str!("../README.md").lines().filter_map(|row| {
+        let (number, words) = row.strip_prefix("| ")?.strip_suffix(" |")?.split_once(" | ")?;
+        Some((number.parse().ok()?, words))
+    });
+    rows.filter(|row| row.0 != 6).collect()
+}
+
+#[test]
+fn words() {
+    let readme = readme();
+    assert_eq!(readme.len(), 35);
+    for number in 0..=100 {
+        let words = readme.get(&number).copied().unwrap_or("no rule of the desk");
+        assert_eq!(Refusal { number, record: 0, at: 0 }.words(), words, "{number}");
+        assert_eq!(c::words(number), words, "{number}");
+    }
+}
+
+#[test]
+fn kinds() {
+    for number in 0..=100 {
+        let kind = match number {
+            10..=16 => Some('Q'),
+            20..=35 => Some('T'),
+            40..=42 => Some('Z'),
+            _ => None,
+        };
+        assert_eq!(Refusal { number, record: 0, at: 0 }.kind(), kind, "{number}");
+        assert_eq!(c::kind(number), kind, "{number}");
+    }
+}
+
+/// The fields as crates/records places them.
+fn places() -> Vec<Columns> {
+    let rows = include_str!("../crates/records/specs/Places.antt").lines().filter_map(|row| {
+        let (field, place) = row.split_once("Place ")?.1.split_once(" = ")?;
+        let (first, last) = place.split_once(" to ")?;
+        let column = |offset: &str| offset.parse::<u64>().unwrap() + 1;
+        Some(Columns { field, first: column(first), last: column(last) })
+    });
+    rows.collect()
+}
+
+#[test]
+fn fields_and_columns() {
+    let places = places();
+    assert_eq!(places.len(), 43);
+    for kind in ['Q', 'T', 'Z', 'X', '\0'] {
+        for offset in (0..1000).chain([u64::MAX]) {
+            let column = offset.saturating_add(1);
+            let holds = |row: &Columns| row.field.starts_with(kind) && (row.first..=row.last).contains(&column);
+            let due = places.iter().copied().find(holds);
+            assert_eq!(desk::columns_at(kind, offset), due, "{kind} {offset}");
+            assert_eq!(c::columns_at(kind, offset), due, "{kind} {offset}");
+        }
+    }
+}
+
+#[test]
+fn lines() {
+    let lines = [
+        (1, 0, 0, "rule 1 at record 0: file longer than 7,679,744 bytes (9,999 payments)"),
+        (5, 4, 0, "rule 5 at record 4: bytes after Z"),
+        (15, 0, 177, "rule 15 at record 0, Q9, column 178: Q9 is not N"),
+        (15, 0, 0, "rule 15 at record 0: Q9 is not N"),
+        (32, 212, 455, "rule 32 at record 212, T13, columns 456 to 458: T13 not EUR"),
+        (41, 9, 20, "rule 41 at record 9, Z4, columns 21 to 35: Z4 is not the number of T records"),
+        (50, 0, 0, "number 50: judge: the file number (Q4, Q6, Q7) is a taken one"),
+        (60, 0, 0, "number 60: prepare, restore: output room shorter than the file"),
+        (61, 0, 0, "number 61: prepare: more changes than note places"),
+        (70, 0, 0, "number 70: restore: no sound file yields this pair"),
+    ];
+    for (number, record, at, line) in lines {
+        assert_eq!(Refusal { number, record, at }.to_string(), line);
+        assert_eq!(c::line(number, record, at), line);
+    }
+    // the longest has room in C
+    let longest = Refusal { number: 26, record: u64::MAX, at: 64 };
+    assert_eq!(c::line(26, u64::MAX, 64), longest.to_string());
+}
+
+/// The functions of hosts/c/words.h.
+mod c {
+    use super::Columns;
+    use std::{ffi::CStr, os::raw::c_char};
+
+    #[repr(C)]
+    struct Found {
+        field: *const c_char,
+        first: u64,
+        last: u64,
+    }
+
+    const DESK_LINE: usize = 256;
+
+    extern "C" {
+        fn desk_words(number: u64) -> *const c_char;
+        fn desk_kind(number: u64) -> c_char;
+        fn desk_columns_at(kind: c_char, offset: u64) -> *const Found;
+        fn desk_refusal_line(line: *mut c_char, number: u64, record: u64, at: u64);
+    }
+
+    pub fn words(number: u64) -> &'static str {
+        // SAFETY: it is a constant text.
+        unsafe { CStr::from_ptr(desk_words(number)) }.to_str().unwrap()
+    }
+
+    pub fn kind(number: u64) -> Option<char> {
+        // SAFETY: it takes and gives numbers alone.
+        let kind = unsafe { desk_kind(number) };
+        (kind != 0).then_some(kind as u8 as char)
+    }
+
+    pub fn columns_at(kind: char, offset: u64) -> Option<Columns> {
+        // SAFETY: it is null, or a constant row with a constant text.
+        let found = unsafe { desk_columns_at(kind as c_char, offset).as_ref() }?;
+        let field = unsafe { CStr::from_ptr(found.field) }.to_str().unwrap();
+        Some(Columns { field, first: found.first, last: found.last })
+    }
+
+    pub fn line(number: u64, record: u64, at: u64) -> String {
+        let mut line = [0; DESK_LINE];
+        // SAFETY: it writes a text with its end, into at most so many bytes.
+        let line = unsafe {
+            desk_refusal_line(line.as_mut_ptr(), number, record, at);
+            CStr::from_ptr(line.as_ptr())
+        };
+        line.to_str().unwrap().to_string()
+    }
+}
