@@ -16,6 +16,7 @@
    restored; 2: used wrongly, or something could not be read or written. */
 #define _POSIX_C_SOURCE 200809L
 #include "desk.h"
+#include "words.h"
 
 #include <errno.h>
 #include <inttypes.h>
@@ -34,8 +35,6 @@ static const char transfer[] =
     "CGRWRUSBZMWSSASNRSSCSLZWSGSOSJLKSHKNZAKRSSSRTJTWTZTHTGTOTTTDTNTRTMTCUGUAUYUSUZVUAEVNBYCF";
 static const char cheque[] = "ARBOBRCLCRDOSVECGTGBHNCACOMXNIPAPYPEPRUYUSVE";
 #define LISTS (const uint8_t *)transfer, sizeof transfer - 1, (const uint8_t *)cheque, sizeof cheque - 1
-
-static const char *const field_name[10] = {"", "Q5", "T8", "T9b", "T10b", "T12", "T15", "T20", "T23", "T24"};
 
 enum { MOST = 7679744 };
 static uint8_t file[MOST + 1], forwarded[MOST + 1], restored[MOST + 1];
@@ -180,34 +179,28 @@ static bool write_both(const char *const paths[PATHS], size_t n, uint64_t count)
     return true;
 }
 
-/* The text field in which a changed place lies. The parts are those of Q and of the first T record: a call of desk_show
-   walks the whole file, and in every further T record the fields lie 768 bytes on. */
-static const char *field_at(const desk_part parts[10], uint64_t place, uint64_t record)
+/* Tells the change at a place of the file, and the byte that was there. Changes are in Q and in T records alone. */
+static void tell_change(uint64_t place, unsigned original)
 {
-    if (record > 1)
-        place -= 768 * (record - 1);
-    for (int field = 1; field <= 9; field++)
-        if (place >= parts[field].start && place - parts[field].start < parts[field].length)
-            return field_name[field];
-    return "?";
+    bool in_q = place < 256;
+    uint64_t record = in_q ? 0 : (place - 256) / 768 + 1;
+    const desk_columns *found = desk_columns_at(in_q ? 'Q' : 'T', in_q ? place : (place - 256) % 768);
+    printf("record %" PRIu64 ", %s, place %" PRIu64 ": hex %02X becomes '%c'\n", record, found ? found->field : "?", place,
+           original, forwarded[place]);
 }
 
-static void tell_changes(size_t n, uint64_t count)
+static void tell_changes(uint64_t count)
 {
-    desk_part parts[10];
-    for (uint64_t field = 1; field <= 9; field++)
-        parts[field] = desk_show(file, n, field == 1 ? 0 : 1, field);
-    for (uint64_t i = 0; i < count; i++) {
-        uint64_t place = notes[i] / 256, record = place < 256 ? 0 : (place - 256) / 768 + 1;
-        printf("record %" PRIu64 ", %s, place %" PRIu64 ": hex %02X becomes '%c'\n", record,
-               field_at(parts, place, record), place, (unsigned)(notes[i] % 256), forwarded[place]);
-    }
+    for (uint64_t i = 0; i < count; i++)
+        tell_change(notes[i] / 256, notes[i] % 256);
     printf("%" PRIu64 " characters changed\n", count);
 }
 
-static bool refused(uint64_t number, uint64_t record)
+static bool refused(uint64_t number, uint64_t record, uint64_t at)
 {
-    printf("refused: rule %" PRIu64 " at record %" PRIu64 "\n", number, record);
+    char line[DESK_LINE];
+    desk_refusal_line(line, number, record, at);
+    printf("refused: %s\n", line);
     return false;
 }
 
@@ -218,14 +211,14 @@ static bool examine(size_t n, uint64_t *count)
     static const uint64_t none[1];
     desk_judgement judged = desk_judge_full(file, n, LISTS, none, 0);
     if (judged.number)
-        return refused(judged.number, judged.record);
+        return refused(judged.number, judged.record, judged.at);
     printf("sound: %" PRIu64 " payments, %" PRIu64 " euros and %" PRIu64 " cents\n", judged.payments, judged.euros,
            judged.cents);
 
     desk_prepared prepared = desk_prepare(file, n, LISTS, forwarded, sizeof forwarded, notes, MOST);
     if (prepared.number)
-        return refused(prepared.number, prepared.record);
-    tell_changes(n, prepared.notes);
+        return refused(prepared.number, prepared.record, 0);
+    tell_changes(prepared.notes);
     *count = prepared.notes;
 
     desk_restored back = desk_restore(forwarded, n, notes, prepared.notes, LISTS, restored, sizeof restored);

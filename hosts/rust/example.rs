@@ -19,11 +19,10 @@
 #[allow(dead_code)] // not every call is made here
 mod desk;
 
-use desk::{Field, Lists, Note, Refusal};
+use desk::{Lists, Note, Refusal};
 use std::ffi::{OsStr, OsString};
 use std::fs::{self, File, OpenOptions};
 use std::io::{self, BufWriter, ErrorKind, Read, Write};
-use std::ops::Range;
 use std::os::unix::{ffi::OsStrExt, fs::MetadataExt};
 use std::path::{Path, PathBuf};
 use std::process::ExitCode;
@@ -100,7 +99,7 @@ fn examine(file: &[u8], out: &mut impl Write) -> io::Result<Option<Outgoing>> {
         Ok(count) => notes.truncate(count),
         Err(refusal) => return refused(refusal, out),
     }
-    tell_changes(file, &forwarded, &notes, out)?;
+    tell_changes(&forwarded, &notes, out)?;
 
     let mut restored = vec![0; file.len()];
     let back = desk::restore(&forwarded, &notes, LISTS, &mut restored);
@@ -109,32 +108,23 @@ fn examine(file: &[u8], out: &mut impl Write) -> io::Result<Option<Outgoing>> {
     Ok(the_very_file.then_some(Outgoing { forwarded, notes }))
 }
 
-fn refused(Refusal { number, record }: Refusal, out: &mut impl Write) -> io::Result<Option<Outgoing>> {
-    writeln!(out, "refused: rule {number} at record {record}")?;
+fn refused(refusal: Refusal, out: &mut impl Write) -> io::Result<Option<Outgoing>> {
+    writeln!(out, "refused: {refusal}")?;
     Ok(None)
 }
 
-/// Tells each change. The places are asked of Q and of the first payment, for each asking walks the whole file; in every
-/// further payment the fields lie 768 bytes on.
-fn tell_changes(file: &[u8], forwarded: &[u8], notes: &[u32], out: &mut impl Write) -> io::Result<()> {
-    let fields: Vec<(Field, Range<usize>)> =
-        [0, 1].into_iter().flat_map(|record| fields_of(file, record)).collect();
+/// Tells each change. They are in Q and in T records alone.
+fn tell_changes(forwarded: &[u8], notes: &[u32], out: &mut impl Write) -> io::Result<()> {
     for Note { place, original } in notes.iter().copied().map(Note::from) {
-        let record = if place < 256 { 0 } else { (place - 256) / 768 + 1 };
-        let in_first = place - 768 * record.saturating_sub(1);
-        let name = match fields.iter().find(|(_, part)| part.contains(&in_first)) {
-            Some((field, _)) => field.to_string(),
-            None => "?".to_string(),
+        let (kind, record, offset) = match place.checked_sub(256) {
+            None => ('Q', 0, place),
+            Some(behind_q) => ('T', behind_q / 768 + 1, behind_q % 768),
         };
+        let field = desk::columns_at(kind, offset as u64).map_or("?", |found| found.field);
         let becomes = forwarded[place] as char;
-        writeln!(out, "record {record}, {name}, place {place}: hex {original:02X} becomes '{becomes}'")?;
+        writeln!(out, "record {record}, {field}, place {place}: hex {original:02X} becomes '{becomes}'")?;
     }
     writeln!(out, "{} characters changed", notes.len())
-}
-
-/// The text fields of a record, each with its places in the file.
-fn fields_of(file: &[u8], record: u64) -> impl Iterator<Item = (Field, Range<usize>)> + '_ {
-    Field::ALL.into_iter().filter_map(move |field| Some((field, desk::place(file, record, field)?)))
 }
 
 /// The file's bytes; of one that is too long, as many as show it.
