@@ -81,6 +81,17 @@ pub fn example(first: &[u8], second: &[u8]) -> [u8; 2048] {
     file
 }
 
+// The same with a cheque as its first payment: no bank, no account, but an address.
+pub fn with_a_cheque() -> [u8; 2048] {
+    let mut file = example(b"ANNA BEISPIEL", b"M&M STUDIO");
+    put(&mut file, 309, b"        ");
+    put(&mut file, 536, b"HAUPTSTRASSE 1");
+    put(&mut file, 571, b"10115 MUSTERSTADT");
+    put(&mut file, 676, b"        ");
+    put(&mut file, 906, b"20");
+    file
+}
+
 // Writes a record n times from a place on; answers the place behind the last.
 fn put_times(room: &mut [u8], at: usize, rec: &[u8], n: usize) -> usize {
     let mut place = at;

@@ -1,7 +1,8 @@
-// Both sides of each edge of document 01, run: a line for each.
+// Both sides of each edge of document 01, and the places of document 02, A1, run: a line for each.
 use libc::STDOUT_FILENO;
 
 mod files;
+mod places;
 
 const LIST: [u8; 2] = *b"US";
 
@@ -29,6 +30,15 @@ fn tell(edge: &[u8], number: usize, rec: usize) {
     say(b"\n");
 }
 
+// The same with the place in the record.
+fn tell_place(edge: &[u8], number: usize, rec: usize, at: usize) {
+    say(edge);
+    say_number(b": ", number as u64);
+    say_number(b" at ", rec as u64);
+    say_number(b", place ", at as u64);
+    say(b"\n");
+}
+
 fn tell_whether(edge: &[u8], holds: bool) {
     say(edge);
     if holds {
@@ -40,7 +50,14 @@ fn tell_whether(edge: &[u8], holds: bool) {
 
 fn judge(edge: &[u8], file: &[u8], taken: &[u64]) {
     let v = judge::judge(file, &LIST, &LIST, taken);
-    tell(edge, v.number, v.rec);
+    tell_place(edge, v.number, v.rec, v.at);
+}
+
+// The same of a file that was changed at a byte, which is told too.
+fn judge_at(edge: &[u8], how: &[u8], byte: usize, file: &[u8]) {
+    say(edge);
+    say_number(how, byte as u64);
+    judge(b"", file, &[]);
 }
 
 fn bytes_after_z() {
@@ -56,11 +73,11 @@ fn in_the_program() {
     let mut most = [32u8; 65024];
     files::many(&mut most, 83, 1, 1, 84, 84);
     let r = report::tell(&most);
-    tell(b"84 T records in the program", r.verdict, r.rec);
+    tell_place(b"84 T records in the program", r.verdict, r.rec, r.at);
     let mut more = [32u8; 65792];
     files::many(&mut more, 84, 1, 1, 85, 85);
     let s = report::tell(&more);
-    tell(b"85 T records in the program", s.verdict, s.rec);
+    tell_place(b"85 T records in the program", s.verdict, s.rec, s.at);
 }
 
 fn taken_numbers() {
@@ -174,7 +191,7 @@ fn restore(edge: &[u8], forwarded: &[u8], notes: &[u32], file: &[u8]) {
 // Document 01's example: what the judge and prepare answer of it.
 fn example(file: &[u8], out: &mut [u8]) {
     let v = judge::judge(file, &LIST, &LIST, &[]);
-    tell(b"120,50 and 79,75", v.number, v.rec);
+    tell_place(b"120,50 and 79,75", v.number, v.rec, v.at);
     say_number(b"  payments ", v.payments as u64);
     say_number(b", euros ", v.euros);
     say_number(b", cents ", v.cents);
@@ -214,4 +231,5 @@ fn main() {
     sum(b"T14a sum 1000000000000000, Z3 all zeros", 10, 0);
     prepare_edges();
     restore_edges();
+    places::edges();
 }
