@@ -8,7 +8,7 @@ use mathlib.Core.Bool.{Bool, false, _&&_, _||_, not, cond}
 use mathlib.Core.List.{List, [], _∷_}
 use mathlib.Core.Logic.{_⊎_, _↔_}
 use lib.Dec.{eqb}
-use Rattle.records.specs.Places.{_to_, part, tPlace, zPlace}
+use Rattle.records.specs.Places.{_to_, part, tPlace}
 use Rattle.records.specs.declared.TField.the-variants.{T9b, T10b, T14a, T14b}
 use Rattle.fields.specs.Class.{allOf}
 use Rattle.fields.specs.declared.Class.the-variants.{Digit, Zero}
