@@ -1,4 +1,4 @@
--- Document 02, A1 (RULES 7): "The judge's answer gets a third number: the offset, in its record, of the lowest-placed field
+-- Document 02, A1 (RULES 7.1): "The judge's answer gets a third number: the offset, in its record, of the lowest-placed field
 -- that breaks the reported rule." What breaks a rule is said once, by the rule's own definition: the fields that it reads,
 -- each with its offset and whether it is as it should be.
 use Prim.Native.Nat.{ℕ, _-_, _≤_}
