@@ -120,7 +120,7 @@ module _ (page : ℕ) (transfer cheque file : List ℕ) where
       there =
           let in-file : answer .rec ≤ n + 1 = omega (arith, found .below) in
           record {
-            turn = refl;
+            own-turn = refl;
             due = walked-due file (answer .rec) (due-here file n fit (answer .rec) (found .below));
             whole = right-whole file (answer .rec) (right-here file n fit (answer .rec) in-file);
             broken = λ e. found .broken (sym (says-is file n fit page transfer cheque (answer .number) (answer .rec) in-file) ∙ e);
@@ -136,7 +136,7 @@ module _ (page : ℕ) (transfer cheque file : List ℕ) where
       none-before m j i (inr (e, inr (q, l))) w =
           let f = wrong-f m j i w in
           let r = in-rules j m f in
-          let below : m < answer .number = omega (arith, w .turn, l) in
+          let below : m < answer .number = omega (arith, w .own-turn, l) in
           f (ap (λ (k : ℕ). F k m) q ∙ found .rules-before m (subst (λ (k : ℕ). ruleFrom n k ≤ m) q (r .0)) below)
 
       place : Points page transfer cheque file (answer .number) (answer .rec) (answer .at)

@@ -22,7 +22,7 @@ module _ (page : ℕ) (transfer cheque file : List ℕ) where
   one-rule : (m n j i : ℕ) → stage m ≡ stage n → Broken page transfer cheque file m j i → Broken page transfer cheque file n j i → m ≡ n
   one-rule m n j i e (inl a) (inl b) = a .rule ∙ sym (b .rule)
   one-rule m n j i e (inr (inl a)) (inr (inl b)) = one-row (walkRules j (slotAt file j)) i m n (a .broken) (b .broken)
-  one-rule m n j i e (inr (inr a)) (inr (inr b)) = sym (a .turn) ∙ b .turn
+  one-rule m n j i e (inr (inr a)) (inr (inr b)) = sym (a .own-turn) ∙ b .own-turn
   one-rule m n j i e (inl a) (inr (inl b)) = absurd (omega (arith, e, ap stage (a .rule), unfit-stage page transfer cheque file n j i b))
   one-rule m n j i e (inl a) (inr (inr b)) = absurd (omega (arith, e, ap stage (a .rule), content-stage page transfer cheque file n j i b))
   one-rule m n j i e (inr (inl a)) (inl b) = absurd (omega (arith, e, ap stage (b .rule), unfit-stage page transfer cheque file m j i a))

@@ -95,8 +95,8 @@ module _ (file : List ℕ) where
           absurd (whole (f .turn) (faultIn k (slotAt file k)) (f .there))
 
   pub right-whole : (k : ℕ) → faultIn k (slotAt file k) ≡ 0 → Whole file k
-  right-whole k e at number b =
-      none-in (walkRules k (slotAt file k)) (walk-within k (slotAt file k)) (fault-is k (slotAt file k) ∙ e) at number b
+  right-whole k e turn number b =
+      none-in (walkRules k (slotAt file k)) (walk-within k (slotAt file k)) (fault-is k (slotAt file k) ∙ e) turn number b
 
   -- the walk comes to the records that are due, and to no other
   pub due-walked : (k : ℕ) → Due file k → Reached file k
