@@ -1,8 +1,8 @@
 /* Compares the desk's five calls with an independent implementation, answer by answer and byte by byte, and holds both to
-   what document 01 asks for.
+   what document 01 and request A1 of document 02 ask for.
 
    compare [--seed N] [--calls N]
-       The fixed part, some 1.4 million calls; then random files, until N calls more are made.
+       The fixed part, some 1.9 million calls; then random files, until N calls more are made.
    compare --seconds N [--seed N]
        Random files alone, for that many seconds.
    compare --replay FILE
