@@ -25,7 +25,9 @@ static void fixed_part(void)
     each_length();
     each_room_and_pair();
     each_rule_alone();
+    each_set_of_fields();
     each_pair_of_rules();
+    each_amount();
     sweep();
     use_annexes();
     long_files();

@@ -1,5 +1,5 @@
-/* Each rule broken alone, in every way that the paper names, and each pair of rules broken at once: then the first in the
-   stated order is due. */
+/* Each rule broken alone, in every way that the paper names; each set of a rule's fields broken at once: then the place of
+   the lowest is due; and each pair of rules broken at once: then the first in the stated order is due. */
 #include <string.h>
 
 #include "drafts.h"
@@ -193,6 +193,49 @@ void random_rule_alone(void)
     char who = w->who[below(strlen(w->who))];
     size_t record = file_to_spoil(who, 1 + below(3));
     spoil_and_judge(w, record, below(ways(w)));
+}
+
+/* ---- Several fields of one rule ------------------------------------------------------------- */
+
+/* The rows that break a rule in one kind of record, each by bytes of its own. Wrong amounts are in amounts.c. */
+static unsigned rows_of(int rule, char who, const row *found[ROWS])
+{
+    unsigned n = 0;
+    for (const row *w = rows; w < rows + ROWS; w++)
+        if (w->rule == rule && rule != 33 && w->how != '=' && strchr(w->who, who))
+            found[n++] = w;
+    return n;
+}
+
+/* Spoils the rows whose bits are in the set. */
+static void spoil_set(const row *const found[ROWS], unsigned set, char who, size_t payment)
+{
+    size_t record = file_to_spoil(who, payment);
+    verdict told = {0, UINT64_MAX, 0};                  /* behind every other */
+    for (unsigned i = 0; set >> i; i++)
+        if (set >> i & 1) {
+            spoil(found[i], record_of(record), below(ways(found[i])));
+            told = first_of(told, verdict_of(found[i], record));
+        }
+    lend_draft();
+    judge_both_ways(told);
+    another_call(set + payment, told);
+}
+
+static void each_set_of(int rule, char who)
+{
+    const row *found[ROWS];
+    unsigned n = rows_of(rule, who, found);
+    for (unsigned set = 1; n > 1 && set < 1u << n; set++)
+        for (size_t turn = 0; turn < 12; turn++)
+            spoil_set(found, set, who, 1 + turn % 3);
+}
+
+void each_set_of_fields(void)
+{
+    for (int rule = 10; rule <= 42; rule++)
+        for (const char *who = "QblcsZ"; *who; who++)
+            each_set_of(rule, *who);
 }
 
 /* ---- Two rules ------------------------------------------------------------------------------ */

@@ -8,8 +8,9 @@
 
 #include "paper.h"
 
-/* rules.c: each rule broken alone, and each pair of rules at once. */
+/* rules.c: each rule broken alone, each set of a rule's fields, and each pair of rules at once. */
 void each_rule_alone(void);
+void each_set_of_fields(void);
 void each_pair_of_rules(void);
 void break_rules_at_random(void);                   /* in the draft; what is then due is not known */
 void random_rule_alone(void);
@@ -22,6 +23,9 @@ void random_rooms(void);
 void random_change(void);
 void each_room_and_pair(void);
 void some_rooms_and_changes(void);                  /* of the last pair, which may be long */
+
+/* amounts.c: rule 33, and which of T14a and T14b it points to. */
+void each_amount(void);
 
 /* verdicts.c: what is due of each call, on the draft as it is lent, without taken numbers. The verdict on it is known. */
 void judge_lent(verdict told);
