@@ -1,5 +1,5 @@
 /* Compares the desk's five calls with an independent implementation, answer by answer and byte by byte, and holds both to
-   what document 01 and request A1 of document 02 ask for.
+   what the papers ask for.
 
    compare [--seed N] [--calls N]
        The fixed part, some 1.9 million calls; then random files, until N calls more are made.

@@ -1,7 +1,7 @@
 /* Lent memory, one request to both sides, what counts as a difference, and kept cases.
 
    Every lent stretch ends at a page that cannot be touched; what is lent for reading stands in pages that cannot be
-   written. What is due of a call by document 01 is held to both sides; then the sides are held to one another. */
+   written. What is due of a call by the papers is held to both sides; then the sides are held to one another. */
 #ifndef LENT_H
 #define LENT_H
 
