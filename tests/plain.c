@@ -1,6 +1,6 @@
-/* The second opinion of the comparison, written from document 01 alone, for plainness and not for speed.
-   The order is the paper's: records, character table, walk, rules, calls. Sentences of the paper stand as comments
-   beside what does them. */
+/* The second opinion of the comparison, written from document 01 and request A1 of document 02 alone, for plainness
+   and not for speed. The order is document 01's: records, character table, walk, rules, calls. Sentences of the papers
+   stand as comments beside what does them. */
 #include "plain.h"
 
 #include <stdbool.h>
@@ -62,8 +62,8 @@ static const stretch
     T3 = {5, 12}, T4a = {13, 15}, T4b = {16, 25}, T5 = {26, 31}, T6 = {32, 39}, T7a = {40, 42}, T7b = {43, 52},
     T8 = {53, 63}, T9a = {64, 66}, T9b = {67, 206}, T10a = {207, 209}, T10b = {210, 349} /* four lines of 35 */,
     T11 = {350, 419}, T12 = {420, 454}, T13 = {455, 457}, T14a = {458, 471}, T14b = {472, 474}, T15 = {475, 614},
-    T16_to_T19 = {615, 622} /* two bytes each */, T20 = {623, 647}, T21 = {648, 649}, T22 = {650, 651},
-    T23 = {652, 678}, T24 = {679, 713}, T25 = {714, 714}, T26 = {715, 765}, T27 = {766, 767};
+    T16 = {615, 616}, T17 = {617, 618}, T18 = {619, 620}, T19 = {621, 622}, T20 = {623, 647}, T21 = {648, 649},
+    T22 = {650, 651}, T23 = {652, 678}, T24 = {679, 713}, T25 = {714, 714}, T26 = {715, 765}, T27 = {766, 767};
 
 static const stretch
     Z3 = {5, 19}, Z4 = {20, 34}, Z5 = {35, 255};
@@ -236,7 +236,7 @@ static uint64_t sum(lent file, uint64_t payments, stretch s)
 
 /* ---- Walk ---- */
 
-/* If refused, payments, euros and cents are 0. */
+/* If refused, payments, euros and cents are 0. Rules 1 to 6, 50 and a sound file give 0 as the offset. */
 static plain_judgement refused(uint64_t number, uint64_t record)
 {
     return (plain_judgement){.number = number, .record = record};
@@ -296,6 +296,19 @@ static plain_judgement walk(lent file)
     }
 }
 
+/* ---- What the rules of a record find ---- */
+
+/* The first broken rule, and the offset in the record of the lowest-placed field that breaks it; number 0: none is
+   broken. Where a rule speaks of several fields they are tried by rising place, whatever the order of its words. */
+typedef struct { uint64_t number, at; } finding;
+
+static const finding NOTHING = {0, 0};
+
+static finding broken(uint64_t number, stretch field)
+{
+    return (finding){number, field.first};
+}
+
 /* ---- Rules of the Q record ---- */
 
 static uint64_t days_of_month(uint64_t year, uint64_t month)
@@ -321,30 +334,36 @@ static bool is_date(rec r, stretch s)
     return month >= 1 && month <= 12 && day >= 1 && day <= days_of_month(year, month);
 }
 
-static uint64_t q_rules(rec q)
+static finding q_rules(rec q)
 {
     /* 10: Q3 is not 50400042 */
     if (!reads(q, Q3, "50400042"))
-        return 10;
+        return broken(10, Q3);
     /* 11: Q4 is not eight zeros and two digits */
     if (!every(q, part(Q4, 0, 7), is_zero) || !every(q, part(Q4, 8, 9), is_digit))
-        return 11;
+        return broken(11, Q4);
     /* 12: first line of Q5 blank */
     if (blank(q, line(Q5, 1)))
-        return 12;
+        return broken(12, Q5);
     /* 13: Q6 is no date YYMMDD (years 2000 to 2099) */
     if (!is_date(q, Q6))
-        return 13;
+        return broken(13, Q6);
     /* 14: a non-digit in Q7, Q8, Q10 or Q11 */
-    if (!every(q, Q7, is_digit) || !every(q, Q8, is_digit) || !every(q, Q10, is_digit) || !every(q, Q11, is_digit))
-        return 14;
+    if (!every(q, Q7, is_digit))
+        return broken(14, Q7);
+    if (!every(q, Q8, is_digit))
+        return broken(14, Q8);
+    if (!every(q, Q10, is_digit))
+        return broken(14, Q10);
+    if (!every(q, Q11, is_digit))
+        return broken(14, Q11);
     /* 15: Q9 is not N */
     if (!reads(q, Q9, "N"))
-        return 15;
+        return broken(15, Q9);
     /* 16: Q12 not all spaces */
     if (!every(q, Q12, is_space))
-        return 16;
-    return 0;
+        return broken(16, Q12);
+    return NOTHING;
 }
 
 /* ---- Rules of a T record ---- */
@@ -395,126 +414,186 @@ static bool begins_with_slash_and_non_space(rec t, stretch s)
     return replaced(byte_of(t, s.first)) == '/' && !is_space(replaced(byte_of(t, s.first + 1)));
 }
 
-static uint64_t t_rules_20_to_24(rec t, rec record_1)
+static finding t_rules_20_to_24(rec t, rec record_1)
 {
     /* 20: a non-digit in T3 or T4b, or T4a not EUR */
-    if (!every(t, T3, is_digit) || !every(t, T4b, is_digit) || !reads(t, T4a, "EUR"))
-        return 20;
+    if (!every(t, T3, is_digit))
+        return broken(20, T3);
+    if (!reads(t, T4a, "EUR"))
+        return broken(20, T4a);
+    if (!every(t, T4b, is_digit))
+        return broken(20, T4b);
     /* 21: T3 or T4b differs from record 1 */
-    if (!same(t, record_1, T3) || !same(t, record_1, T4b))
-        return 21;
+    if (!same(t, record_1, T3))
+        return broken(21, T3);
+    if (!same(t, record_1, T4b))
+        return broken(21, T4b);
     /* 22: T5, T6 or T7b not all zeros, or T7a not spaces */
-    if (!every(t, T5, is_zero) || !every(t, T6, is_zero) || !every(t, T7b, is_zero) || !every(t, T7a, is_space))
-        return 22;
+    if (!every(t, T5, is_zero))
+        return broken(22, T5);
+    if (!every(t, T6, is_zero))
+        return broken(22, T6);
+    if (!every(t, T7a, is_space))
+        return broken(22, T7a);
+    if (!every(t, T7b, is_zero))
+        return broken(22, T7b);
     /* 23: T22 is not 00 (transfer), 20 or 22 (cheques) */
     if (!is_transfer(t) && !is_cheque(t))
-        return 23;
+        return broken(23, T22);
     /* 24: T21 not 00, 01 or 02; for a cheque, not 00 */
     if (!reads(t, T21, "00") && !reads(t, T21, "01") && !reads(t, T21, "02"))
-        return 24;
+        return broken(24, T21);
     if (is_cheque(t) && !reads(t, T21, "00"))
-        return 24;
-    return 0;
+        return broken(24, T21);
+    return NOTHING;
 }
 
-static uint64_t t_rules_25_to_29(rec t, country_lists lists)
+static finding t_rules_25_to_29(rec t, country_lists lists)
 {
     /* 25: cheque: T8 or T9b not blank, or T9a not spaces */
-    if (is_cheque(t) && (!blank(t, T8) || !blank(t, T9b) || !every(t, T9a, is_space)))
-        return 25;
+    if (is_cheque(t) && !blank(t, T8))
+        return broken(25, T8);
+    if (is_cheque(t) && !every(t, T9a, is_space))
+        return broken(25, T9a);
+    if (is_cheque(t) && !blank(t, T9b))
+        return broken(25, T9b);
     /* 26: transfer: T9a wrong */
     if (is_transfer(t) && !transfer_t9a_right(t, lists.transfer))
-        return 26;
-    /* 27: transfer: T8 has no BIC shape and T9b is blank */
+        return broken(26, T9a);
+    /* 27: transfer: T8 has no BIC shape and T9b is blank. Rules 27 and 29 point to T9b and T10b. */
     if (is_transfer(t) && !has_bic_shape(t) && blank(t, T9b))
-        return 27;
+        return broken(27, T9b);
     /* 28: T10a not a listed country (transfer list or cheque list, by T22) and a space */
     if (!listed_and_space(t, T10a, is_cheque(t) ? lists.cheque : lists.transfer))
-        return 28;
+        return broken(28, T10a);
     /* 29: first line of T10b blank; for a cheque, also line 3 or line 4 blank */
     if (blank(t, line(T10b, 1)))
-        return 29;
+        return broken(29, T10b);
     if (is_cheque(t) && (blank(t, line(T10b, 3)) || blank(t, line(T10b, 4))))
-        return 29;
-    return 0;
+        return broken(29, T10b);
+    return NOTHING;
 }
 
-static uint64_t t_rules_30_to_35(rec t)
+/* amount zero (T14a and the first two digits of T14b all zeros) */
+static bool amount_is_zero(rec t)
+{
+    return every(t, T14a, is_zero) && every(t, part(T14b, 0, 1), is_zero);
+}
+
+/* Rule 33 points to T14a when T14a has a non-digit, or when T14a and T14b are all digits and the amount is zero; else
+   to T14b. */
+static stretch field_of_33(rec t)
+{
+    if (!every(t, T14a, is_digit))
+        return T14a;
+    if (every(t, T14b, is_digit) && amount_is_zero(t))
+        return T14a;
+    return T14b;
+}
+
+static finding t_rules_30_to_33(rec t)
 {
     /* 30: T11 not all spaces */
     if (!every(t, T11, is_space))
-        return 30;
+        return broken(30, T11);
     /* 31: transfer: T12 does not begin with / and a non-space; cheque: T12 not blank */
     if (is_transfer(t) && !begins_with_slash_and_non_space(t, T12))
-        return 31;
+        return broken(31, T12);
     if (is_cheque(t) && !blank(t, T12))
-        return 31;
+        return broken(31, T12);
     /* 32: T13 not EUR */
     if (!reads(t, T13, "EUR"))
-        return 32;
+        return broken(32, T13);
     /* 33: a non-digit in T14a or T14b, last digit of T14b not 0, */
     if (!every(t, T14a, is_digit) || !every(t, T14b, is_digit) || !is_zero(byte_of(t, T14b.last)))
-        return 33;
-    /* or amount zero (T14a and the first two digits of T14b all zeros) */
-    if (every(t, T14a, is_zero) && every(t, part(T14b, 0, 1), is_zero))
-        return 33;
+        return broken(33, field_of_33(t));
+    /* or amount zero */
+    if (amount_is_zero(t))
+        return broken(33, field_of_33(t));
+    return NOTHING;
+}
+
+static finding t_rules_34_and_35(rec t)
+{
     /* 34: a non-digit in T16 to T19 or T25, or T27 not 00 */
-    if (!every(t, T16_to_T19, is_digit) || !every(t, T25, is_digit) || !reads(t, T27, "00"))
-        return 34;
+    if (!every(t, T16, is_digit))
+        return broken(34, T16);
+    if (!every(t, T17, is_digit))
+        return broken(34, T17);
+    if (!every(t, T18, is_digit))
+        return broken(34, T18);
+    if (!every(t, T19, is_digit))
+        return broken(34, T19);
+    if (!every(t, T25, is_digit))
+        return broken(34, T25);
+    if (!reads(t, T27, "00"))
+        return broken(34, T27);
     /* 35: T26 not all spaces */
     if (!every(t, T26, is_space))
-        return 35;
-    return 0;
+        return broken(35, T26);
+    return NOTHING;
 }
 
 /* In rising rule number within a record. */
-static uint64_t t_rules(rec t, rec record_1, country_lists lists)
+static finding t_rules(rec t, rec record_1, country_lists lists)
 {
-    uint64_t number = t_rules_20_to_24(t, record_1);
-    if (number == 0)
-        number = t_rules_25_to_29(t, lists);
-    if (number == 0)
-        number = t_rules_30_to_35(t);
-    return number;
+    finding found = t_rules_20_to_24(t, record_1);
+    if (found.number == 0)
+        found = t_rules_25_to_29(t, lists);
+    if (found.number == 0)
+        found = t_rules_30_to_33(t);
+    if (found.number == 0)
+        found = t_rules_34_and_35(t);
+    return found;
 }
 
 /* ---- Rules of the Z record ---- */
 
-static uint64_t z_rules(rec z, uint64_t payments)
+static finding z_rules(rec z, uint64_t payments)
 {
     /* 40: a non-digit in Z3 or Z4, or Z5 not all spaces */
-    if (!every(z, Z3, is_digit) || !every(z, Z4, is_digit) || !every(z, Z5, is_space))
-        return 40;
+    if (!every(z, Z3, is_digit))
+        return broken(40, Z3);
+    if (!every(z, Z4, is_digit))
+        return broken(40, Z4);
+    if (!every(z, Z5, is_space))
+        return broken(40, Z5);
     /* 41: Z4 is not the number of T records */
     if (value(z, Z4) != payments)
-        return 41;
+        return broken(41, Z4);
     /* 42: Z3 is not the sum of all T14a (whole euros, no cents) */
     if (value(z, Z3) != sum(z.file, payments, T14a))
-        return 42;
-    return 0;
+        return broken(42, Z3);
+    return NOTHING;
 }
 
 /* ---- Soundness ---- */
 
+/* A broken rule of content tells its record and its place. */
+static plain_judgement refused_by(finding found, uint64_t record)
+{
+    return (plain_judgement){.number = found.number, .record = record, .at = found.at};
+}
+
 /* Content, record by record. The first broken rule ends the judgement there. */
 static plain_judgement content(lent file, uint64_t payments, country_lists lists)
 {
-    uint64_t number = q_rules(numbered(file, 0));
-    if (number != 0)
-        return refused(number, 0);
+    finding found = q_rules(numbered(file, 0));
+    if (found.number != 0)
+        return refused_by(found, 0);
     for (uint64_t record = 1; record <= payments; record++) {
-        number = t_rules(numbered(file, record), numbered(file, 1), lists);
-        if (number != 0)
-            return refused(number, record);
+        found = t_rules(numbered(file, record), numbered(file, 1), lists);
+        if (found.number != 0)
+            return refused_by(found, record);
     }
-    number = z_rules(numbered(file, payments + 1), payments);
-    if (number != 0)
-        return refused(number, payments + 1);
+    found = z_rules(numbered(file, payments + 1), payments);
+    if (found.number != 0)
+        return refused_by(found, payments + 1);
     /* If 0, record 0, the number of payments, the euro sum of T14a and the cent sum (first two digits of T14b, added,
        not carried into euros). */
     uint64_t euros = sum(file, payments, T14a);
     uint64_t cents = sum(file, payments, part(T14b, 0, 1));
-    return (plain_judgement){.number = 0, .record = 0, .payments = payments, .euros = euros, .cents = cents};
+    return (plain_judgement){.number = 0, .record = 0, .at = 0, .payments = payments, .euros = euros, .cents = cents};
 }
 
 /* 0 means sound: none of rules 1 to 5 and 10 to 42 is broken. Structure is walked first over the whole file. */

@@ -1,5 +1,5 @@
-/* The second opinion of the comparison: the calls of document 01 in plain C, written from document 01 alone, for
-   plainness and not for speed.
+/* The second opinion of the comparison: the calls of document 01 in plain C, written from document 01 and request A1 of
+   document 02 alone, for plainness and not for speed.
 
    In every call a file or a list is lent as a pointer and its length; with length 0 the pointer is not followed.
    transfer and cheque are the country lists, two bytes a country, a lone last byte ignored. Memory lent for writing
@@ -12,7 +12,7 @@
 #include <stddef.h>
 #include <stdint.h>
 
-typedef struct { uint64_t number, record, payments, euros, cents; } plain_judgement;
+typedef struct { uint64_t number, record, at, payments, euros, cents; } plain_judgement;
 typedef struct { uint64_t number, record, notes; } plain_prepared;
 typedef struct { uint64_t number, record; } plain_restored;
 typedef struct { uint64_t start, length; } plain_part;   /* length 0: no such field; then start is 0 too */
@@ -21,7 +21,8 @@ typedef struct { uint64_t start, length; } plain_part;   /* length 0: no such fi
 uint64_t plain_judge(const uint8_t *file, size_t n,
                     const uint8_t *transfer, size_t nt, const uint8_t *cheque, size_t nc);
 
-/* Judge: number and record; payments, euros and cents are 0 if refused. For 50 the record is 0. */
+/* Judge: number, record, and at, the offset in the record of the lowest-placed field that breaks the rule; payments,
+   euros and cents are 0 if refused. For 50 the record is 0. at is 0 for rules 1 to 5, 50 and a sound file. */
 plain_judgement plain_judge_full(const uint8_t *file, size_t n,
                                const uint8_t *transfer, size_t nt, const uint8_t *cheque, size_t nc,
                                const uint64_t *taken, size_t taken_n);

@@ -20,7 +20,7 @@ static void judge_taken(uint64_t *list, size_t n, size_t first, size_t second, s
     for (size_t i = 0; i < n; i++)
         list[i] = i == first || i == second ? file_number() : untaken(i + way);
     lend_taken(list, n);
-    due(first < n || second < n ? 50 : 0, 0);
+    due(first < n || second < n ? 50 : 0, 0, 0);
     judge_full();
 }
 
@@ -58,7 +58,7 @@ void random_taken_numbers(bool sound)
         list[one_in(3) ? 0 : one_in(3) ? n - 1 : below(n)] = file_number();
     lend_taken(list, n);
     if (sound)
-        due(times ? 50 : 0, 0);
+        due(times ? 50 : 0, 0, 0);
     judge_full();
     lend_taken(NULL, 0);
     const uint64_t *full = judge_full();
@@ -154,20 +154,20 @@ void each_length(void)
         if (faulty) draft[5] = 'X', draft[256 + 13] = 'X';
         for (draft_n = 0; draft_n < whole; draft_n++) {
             size_t record = draft_n < 256 ? 0 : 1 + (draft_n - 256) / 768;
+            verdict told = broken_at(2, record, 0);
             lend_draft();
-            due(100 * record + 2);
-            judge();
-            another_call(draft_n, 2, record);
+            judge_both_ways(told);
+            another_call(draft_n, told);
         }
     }
     for (size_t more = 1; more <= 800; more++) {
         draft_n = whole;
         append_more(more > 256 ? 256 : more);
         draft_n = whole + more;
+        verdict told = broken_at(5, 3, 0);
         lend_draft();
-        due(305);
-        judge();
-        another_call(more, 5, 3);
+        judge_both_ways(told);
+        another_call(more, told);
     }
 }
 
@@ -189,7 +189,7 @@ static void worked_example(void)
 static void answers_of_the_example(void)
 {
     worked_example();
-    due(0, 0, 2, 199, 125);
+    due(0, 0, 0, 2, 199, 125);
     judge_full();
     draft[1235] = '+';                                  /* in the draft alone: the file is lent already */
     due(0, 0, 1);
@@ -200,21 +200,22 @@ static void answers_of_the_example(void)
 
 static void short_files(void)
 {
-    static const struct { const char *bytes; uint64_t code; } files[] = {
+    static const struct { const char *bytes; uint64_t rule; } files[] = {
         {"", 2}, {"0256", 2}, {"XXXX", 2}, {"XXXXX", 4}, {"9999Q", 3}, {"0256Q", 2}
     };
     for (size_t i = 0; i < sizeof files / sizeof files[0]; i++) {
         lend(FILE_IN, files[i].bytes, strlen(files[i].bytes));
-        due(files[i].code);
-        judge();
+        judge_both_ways(broken_at(files[i].rule, 0, 0));
     }
 }
 
-static void judge_draft(uint64_t code)
+/* A code is record * 100 + rule, as payroll hosts get it. */
+static verdict of_code(uint64_t code, int place) { return broken_at(code % 100, code / 100, place); }
+
+static void judge_draft(uint64_t code, int place)
 {
     lend_draft();
-    due(code);
-    judge();
+    judge_both_ways(of_code(code, place));
 }
 
 /* Zeros, as long as a file may be and one byte longer. */
@@ -222,9 +223,9 @@ static void zeros(void)
 {
     memset(draft, 0, MOST_FILE + 1);
     draft_n = MOST_FILE + 1;
-    judge_draft(1);
+    judge_draft(1, 0);
     draft_n = MOST_FILE;
-    judge_draft(4);
+    judge_draft(4, 0);
 }
 
 /* The example with other bytes at one place, and the code that is then due. */
@@ -235,11 +236,9 @@ static void run_edges(const edge *e, size_t count)
     for (; count > 0; e++, count--) {
         worked_example();
         put(record_of(e->record) + e->at, e->bytes);
-        lend_draft();
-        due(e->code);
-        judge();
+        judge_draft(e->code, e->at);
         for (size_t turn = 0; turn < 4; turn++)
-            another_call(turn, e->code % 100, e->code / 100);
+            another_call(turn, of_code(e->code, e->at));
     }
 }
 
@@ -270,7 +269,10 @@ static void edges_of_the_sum(void)
             sample_t(record_of(r), CHEQUE, "US", r < 11 ? 99999999999999u : 9u + more, 99);
         sample_z(draft, 11);
         lend_draft();
-        due(more ? 42 : 0, more ? 12 : 0, more ? 0 : 11, more ? 0 : 999999999999999u, more ? 0 : 1089);
+        if (more)
+            due(42, 12, 5, 0, 0, 0);
+        else
+            due(0, 0, 0, 11, 999999999999999u, 1089);
         judge_full();
     }
 }
@@ -285,9 +287,9 @@ static void countries_of_any_content(void)
     worked_example();
     memcpy(record_of(1) + 207, "\xFF\x00 ", 3);
     memcpy(record_of(2) + 207, "   ", 3);
-    judge_draft(0);
+    judge_draft(0, 0);
     memcpy(record_of(1) + 207, "X\x00 ", 3);             /* the lone last byte, and what may stand behind it */
-    judge_draft(128);
+    judge_draft(128, 207);
 }
 
 /* With a BIC, capitals are asked of T9a, listed or not; without one, the list decides. */
@@ -302,9 +304,7 @@ static void banks_country(void)
         put(record_of(2) + 53, "SC123456   ");
         put(record_of(2) + 64, without[i].country);
         put(record_of(2) + 206, "/");
-        lend_draft();
-        due(without[i].code);
-        judge();
+        judge_draft(without[i].code, 64);
     }
 }
 
@@ -342,7 +342,7 @@ static void long_sound_file(void)
     lend_taken(NULL, 0);
     due(0);
     judge();
-    due(0, 0, 9999, 49995000, 495000);
+    due(0, 0, 0, 9999, 49995000, 495000);
     judge_full();
     prepare_pair(true);
     some_rooms_and_changes();
@@ -353,12 +353,12 @@ static void faults_far_back(void)
 {
     uint8_t *t27 = record_of(payments) + 766, kept = *t27;
     *t27 = 'X';
-    judge_draft(999934);
+    judge_draft(999934, 766);
     *t27 = kept;
     draft[draft_n - 1] = 'X';
-    judge_draft(1000040);
+    judge_draft(1000040, 255);
     draft[--draft_n] = ' ';
-    judge_draft(1000002);
+    judge_draft(1000002, 0);
     draft_n = MOST_FILE;
 }
 
@@ -377,8 +377,8 @@ static void one_byte_too_long(void)
     draft_n = MOST_FILE + 1;
     lend_draft();
     for (size_t turn = 0; turn < 4; turn++)
-        another_call(turn, 1, 0);
-    judge_draft(1);
+        another_call(turn, of_code(1, 0));
+    judge_draft(1, 0);
 }
 
 void long_files(void)

@@ -1,8 +1,8 @@
 /* Compares the desk's five calls with an independent implementation, answer by answer and byte by byte, and holds both to
-   what document 01 asks for.
+   what the papers ask for.
 
    compare [--seed N] [--calls N]
-       The fixed part, some 1.4 million calls; then random files, until N calls more are made.
+       The fixed part, some 1.9 million calls; then random files, until N calls more are made.
    compare --seconds N [--seed N]
        Random files alone, for that many seconds.
    compare --replay FILE
@@ -25,7 +25,9 @@ static void fixed_part(void)
     each_length();
     each_room_and_pair();
     each_rule_alone();
+    each_set_of_fields();
     each_pair_of_rules();
+    each_amount();
     sweep();
     use_annexes();
     long_files();

@@ -58,9 +58,9 @@ static const char *const call_name[CALLS] = {"judge", "judge_full", "prepare", "
 static const char *const stretch_name[STRETCHES] = {
     "file", "transfer", "cheque", "taken", "notes", "answer-due", "output-due", "notes-due"
 };
-enum { NUMBERS = 5 };
+enum { NUMBERS = 6 };
 static const char *const answer_name[CALLS][NUMBERS] = {
-    {"code"}, {"number", "record", "payments", "euros", "cents"}, {"number", "record", "notes"},
+    {"code"}, {"number", "record", "at", "payments", "euros", "cents"}, {"number", "record", "notes"},
     {"number", "record"}, {"start", "length"}
 };
 
@@ -259,8 +259,10 @@ static void check_answer(int side)
     }
     if ((writes || now.call == JUDGE_FULL) && (a[0] == 0 || a[0] >= 50) && a[1] != 0)
         differ("record 0 expected");
-    if (now.call == JUDGE_FULL && a[0] && (a[2] || a[3] || a[4]))
+    if (now.call == JUDGE_FULL && a[0] && (a[3] || a[4] || a[5]))
         differ("sums answered though refused");
+    if (now.call == JUDGE_FULL && !may_point_to(a[0], a[2]))
+        differ("no field of the rule begins at this place");
     if (now.call == SHOW && (a[1] ? a[0] > now.size[FILE_IN] || a[1] > now.size[FILE_IN] - a[0] : a[0] != 0))
         differ("part outside the file, or an empty part with a place");
 }

@@ -1,7 +1,7 @@
 /* Lent memory, one request to both sides, what counts as a difference, and kept cases.
 
    Every lent stretch ends at a page that cannot be touched; what is lent for reading stands in pages that cannot be
-   written. What is due of a call by document 01 is held to both sides; then the sides are held to one another. */
+   written. What is due of a call by the papers is held to both sides; then the sides are held to one another. */
 #ifndef LENT_H
 #define LENT_H
 
@@ -33,7 +33,7 @@ void due_numbers(const uint64_t *numbers, size_t n);
 void due_output(const uint8_t *bytes, size_t n);
 void due_notes(const uint32_t *notes, size_t n);
 
-/* The calls. Each answers the numbers that both sides gave, five at most, the others 0. */
+/* The calls. Each answers the numbers that both sides gave, six at most, the others 0. */
 const uint64_t *judge(void);
 const uint64_t *judge_full(void);
 const uint64_t *prepare(size_t room, size_t places);

@@ -72,3 +72,44 @@ bool is_listed(const uint8_t *list, size_t n, const uint8_t country[2])
             return true;
     return false;
 }
+
+/* Where the fields of each rule begin, by rising place; no field begins at 0. Rules 1 to 5, 50 and 0 have none. */
+enum { LAST_RULE = 42, MOST_FIELDS = 6 };
+
+static const int fields_of[LAST_RULE + 1][MOST_FIELDS] = {
+    [10] = {5}, [11] = {13}, [12] = {23}, [13] = {163},         /* Q3; Q4; Q5; Q6 */
+    [14] = {169, 171, 178, 180},                                /* Q7, Q8, Q10, Q11 */
+    [15] = {177}, [16] = {188},                                 /* Q9; Q12 */
+    [20] = {5, 13, 16}, [21] = {5, 16},                         /* T3, T4a, T4b; T3, T4b */
+    [22] = {26, 32, 40, 43},                                    /* T5, T6, T7a, T7b */
+    [23] = {650}, [24] = {648},                                 /* T22; T21 */
+    [25] = {53, 64, 67},                                        /* T8, T9a, T9b */
+    [26] = {64}, [27] = {67},                                   /* T9a, also where it is T8 that makes it wrong; T9b */
+    [28] = {207}, [29] = {210},                                 /* T10a; T10b, whichever line is blank */
+    [30] = {350}, [31] = {420}, [32] = {455},                   /* T11; T12; T13 */
+    [33] = {458, 472},                                          /* T14a, T14b */
+    [34] = {615, 617, 619, 621, 714, 766},                      /* T16, T17, T18, T19, T25, T27 */
+    [35] = {715},                                               /* T26 */
+    [40] = {5, 20, 35}, [41] = {20}, [42] = {5},                /* Z3, Z4, Z5; Z4; Z3 */
+};
+
+verdict broken_at(uint64_t rule, uint64_t record, int place)
+{
+    const int *begins = fields_of[rule <= LAST_RULE ? rule : 0];
+    int at = begins[0];
+    for (int i = 1; i < MOST_FIELDS && begins[i]; i++)
+        if (begins[i] <= place)
+            at = begins[i];
+    return rule ? (verdict){rule, record, (uint64_t)at} : (verdict){0, 0, 0};
+}
+
+bool may_point_to(uint64_t rule, uint64_t at) { return broken_at(rule, 0, (int)at).at == at; }
+
+verdict first_of(verdict one, verdict other)
+{
+    if (one.record != other.record)
+        return one.record < other.record ? one : other;
+    if (one.rule != other.rule)
+        return one.rule < other.rule ? one : other;
+    return one.at < other.at ? one : other;
+}

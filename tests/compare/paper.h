@@ -1,5 +1,5 @@
-/* What the tests themselves take from document 01: where text stands, what the table makes of it, dates, lists. Both sides
-   of the comparison are held to what follows from it. */
+/* What the tests themselves take from document 01 and from request A1 of document 02: where text stands, what the table
+   makes of it, dates, lists, where a broken rule points to. Both sides of the comparison are held to what follows. */
 #ifndef PAPER_H
 #define PAPER_H
 
@@ -26,5 +26,19 @@ size_t forwarded_of(const uint8_t *file, size_t n, uint8_t *forwarded, uint32_t 
 bool has_day(unsigned year, unsigned month, unsigned day);
 
 bool is_listed(const uint8_t *list, size_t n, const uint8_t country[2]);
+
+/* The judge's first three numbers: the first broken rule, its record, and where in the record the lowest-placed field
+   begins that breaks the rule. All are 0 for a sound file. */
+typedef struct { uint64_t rule, record, at; } verdict;
+
+/* The verdict where a rule is broken by what stands at this place of the record. If the rule has several fields, the one
+   with the place in it is told. Rule 0: sound, whatever the record and the place. */
+verdict broken_at(uint64_t rule, uint64_t record, int place);
+
+/* Whether a rule can be told with this place: a field of the rule begins there, or it has none and the place is 0. */
+bool may_point_to(uint64_t rule, uint64_t at);
+
+/* What is told where both hold of a file: the first by record, then by rule, then by place. */
+verdict first_of(verdict one, verdict other);
 
 #endif

@@ -1,5 +1,5 @@
-/* Each rule broken alone, in every way that the paper names, and each pair of rules broken at once: then the first in the
-   stated order is due. */
+/* Each rule broken alone, in every way that the paper names; each set of a rule's fields broken at once: then the place of
+   the lowest is due; and each pair of rules broken at once: then the first in the stated order is due. */
 #include <string.h>
 
 #include "drafts.h"
@@ -63,8 +63,10 @@ static const row rows[] = {
     {31, "s", 420, 454, '_', 0}, {0, "s", 420, 454, 'f', 0}, {0, "blc", 422, 454, 'f', 0},
     {32, "blcs", 455, 457, '!', 0},
     {33, "blcs", 458, 471, '9', 0}, {33, "blcs", 472, 474, '9', 0}, {33, "blcs", 474, 474, '#', 0},
-    {33, "blcs", 458, 474, '=', "00000000000000000" "00000000000000005" "00000000000000505" "00000000000001001"},
-    {34, "blcs", 615, 622, '9', 0}, {34, "blcs", 714, 714, '9', 0}, {34, "blcs", 766, 767, '!', 0},
+    {33, "blcs", 458, 474, '=', "00000000000000000" "00000000000000005"},
+    {33, "blcs", 472, 474, '=', "505" "015" "991"},
+    {34, "blcs", 615, 616, '9', 0}, {34, "blcs", 617, 618, '9', 0}, {34, "blcs", 619, 620, '9', 0},
+    {34, "blcs", 621, 622, '9', 0}, {34, "blcs", 714, 714, '9', 0}, {34, "blcs", 766, 767, '!', 0},
     {0, "blcs", 615, 622, '#', 0}, {0, "blcs", 714, 714, '#', 0}, {0, "blcs", 472, 473, '=', "01" "10" "99"},
     {35, "blcs", 715, 765, '!', 0},
     {0, "blcs", 475, 614, 'f', 0}, {0, "blcs", 623, 647, 'f', 0}, {0, "blcs", 652, 678, 'f', 0},
@@ -135,8 +137,12 @@ static void fit_record(char who, uint8_t *r)
         memset(r + 67, ' ', 140);
 }
 
-/* Record 1 has no other to differ from: there it is record 2 that breaks rule 21. */
-static size_t record_told(const row *w, size_t record) { return w->rule == 21 && record == 1 ? 2 : record; }
+/* What is due of a file in which this record alone is spoiled. Record 1 has no other to differ from: there it is record 2
+   that breaks rule 21. */
+static verdict verdict_of(const row *w, size_t record)
+{
+    return broken_at((uint64_t)w->rule, w->rule == 21 && record == 1 ? 2 : record, w->first);
+}
 
 /* A sound file of which that payment is of the wanted kind; answers the number of the record to spoil. */
 static size_t file_to_spoil(char who, size_t payment)
@@ -157,13 +163,12 @@ static size_t file_to_spoil(char who, size_t payment)
 static void spoil_and_judge(const row *w, size_t record, size_t way)
 {
     uint8_t kept[768], *r = record_of(record);
-    size_t told = w->rule == 0 ? 0 : record_told(w, record);
+    verdict told = verdict_of(w, record);
     memcpy(kept, r, 768);
     spoil(w, r, way);
     lend_draft();
-    due(told * 100 + (uint64_t)w->rule);
-    judge();
-    another_call(way + record, (uint64_t)w->rule, told);
+    judge_both_ways(told);
+    another_call(way + record, told);
     memcpy(r, kept, 768);
 }
 
@@ -188,6 +193,49 @@ void random_rule_alone(void)
     char who = w->who[below(strlen(w->who))];
     size_t record = file_to_spoil(who, 1 + below(3));
     spoil_and_judge(w, record, below(ways(w)));
+}
+
+/* ---- Several fields of one rule ------------------------------------------------------------- */
+
+/* The rows that break a rule in one kind of record, each by bytes of its own. Wrong amounts are in amounts.c. */
+static unsigned rows_of(int rule, char who, const row *found[ROWS])
+{
+    unsigned n = 0;
+    for (const row *w = rows; w < rows + ROWS; w++)
+        if (w->rule == rule && rule != 33 && w->how != '=' && strchr(w->who, who))
+            found[n++] = w;
+    return n;
+}
+
+/* Spoils the rows whose bits are in the set. */
+static void spoil_set(const row *const found[ROWS], unsigned set, char who, size_t payment)
+{
+    size_t record = file_to_spoil(who, payment);
+    verdict told = {0, UINT64_MAX, 0};                  /* behind every other */
+    for (unsigned i = 0; set >> i; i++)
+        if (set >> i & 1) {
+            spoil(found[i], record_of(record), below(ways(found[i])));
+            told = first_of(told, verdict_of(found[i], record));
+        }
+    lend_draft();
+    judge_both_ways(told);
+    another_call(set + payment, told);
+}
+
+static void each_set_of(int rule, char who)
+{
+    const row *found[ROWS];
+    unsigned n = rows_of(rule, who, found);
+    for (unsigned set = 1; n > 1 && set < 1u << n; set++)
+        for (size_t turn = 0; turn < 12; turn++)
+            spoil_set(found, set, who, 1 + turn % 3);
+}
+
+void each_set_of_fields(void)
+{
+    for (int rule = 10; rule <= 42; rule++)
+        for (const char *who = "QblcsZ"; *who; who++)
+            each_set_of(rule, *who);
 }
 
 /* ---- Two rules ------------------------------------------------------------------------------ */
@@ -236,17 +284,18 @@ static void pair_of_rules(const row *v, const row *w, size_t turn)
     fit_record(who_w, record_of(at_w));
     if (!spoil_both(v, at_v, w, at_w))
         return;
-    uint64_t code_v = 100 * record_told(v, at_v) + (uint64_t)v->rule;
-    uint64_t code_w = 100 * record_told(w, at_w) + (uint64_t)w->rule;
-    uint64_t first = code_v < code_w ? code_v : code_w;
+    verdict told = first_of(verdict_of(v, at_v), verdict_of(w, at_w));
     lend_draft();
-    due(first);
-    judge();
-    another_call(turn / 2, first % 100, first / 100);
+    judge_both_ways(told);
+    another_call(turn / 2, told);
 }
 
-/* Not two differences from record 1, which may be the same difference. */
-static bool can_pair(const row *v, const row *w) { return v->rule && w->rule && (v->rule != 21 || w->rule != 21); }
+/* Not two differences from record 1, which may be the same difference; nor two wrong amounts, of which it is not always
+   the lower field that is told. */
+static bool can_pair(const row *v, const row *w)
+{
+    return v->rule && w->rule && (v->rule != w->rule || (v->rule != 21 && v->rule != 33));
+}
 
 void each_pair_of_rules(void)
 {

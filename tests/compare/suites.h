@@ -6,8 +6,11 @@
 #include <stddef.h>
 #include <stdint.h>
 
-/* rules.c: each rule broken alone, and each pair of rules at once. */
+#include "paper.h"
+
+/* rules.c: each rule broken alone, each set of a rule's fields, and each pair of rules at once. */
 void each_rule_alone(void);
+void each_set_of_fields(void);
 void each_pair_of_rules(void);
 void break_rules_at_random(void);                   /* in the draft; what is then due is not known */
 void random_rule_alone(void);
@@ -21,9 +24,13 @@ void random_change(void);
 void each_room_and_pair(void);
 void some_rooms_and_changes(void);                  /* of the last pair, which may be long */
 
-/* others.c: what is due of the calls beside the judge, on the draft as it is lent. Its first broken rule is known; 0 if it
-   is sound. */
-void another_call(size_t turn, uint64_t rule, uint64_t record);
+/* amounts.c: rule 33, and which of T14a and T14b it points to. */
+void each_amount(void);
+
+/* verdicts.c: what is due of each call, on the draft as it is lent, without taken numbers. The verdict on it is known. */
+void judge_lent(verdict told);
+void judge_both_ways(verdict told);                 /* by the call for payroll hosts too */
+void another_call(size_t turn, verdict told);
 void show_part(uint64_t record, uint64_t field, bool walked);       /* walked: no rule of 1 to 5 is broken */
 
 /* cases.c: the cases that document 01 names, lists and numbers, every length, long files. */

@@ -1,6 +1,19 @@
-/* What is due of the calls beside the judge, on a draft whose first broken rule is known. */
+/* What is due of each call, on a draft on which the verdict is known. */
 #include "drafts.h"
 #include "suites.h"
+
+void judge_lent(verdict told)
+{
+    due(told.rule, told.record, told.at);
+    judge_full();
+}
+
+void judge_both_ways(verdict told)
+{
+    judge_lent(told);
+    due(100 * told.record + told.rule);
+    judge();
+}
 
 void show_part(uint64_t record, uint64_t field, bool walked)
 {
@@ -14,22 +27,22 @@ void show_part(uint64_t record, uint64_t field, bool walked)
     show(record, field);
 }
 
-static void judge_a_taken_number(uint64_t rule, uint64_t record)
+static void judge_a_taken_number(verdict told)
 {
     uint64_t number = file_number();
     lend_taken(&number, 1);
-    due(rule ? rule : 50, record, 0, 0, 0);
+    due(told.rule ? told.rule : 50, told.record, told.at, 0, 0, 0);
     judge_full();
     lend_taken(NULL, 0);
 }
 
-static void prepare_it(uint64_t rule, uint64_t record)
+static void prepare_it(verdict told)
 {
-    if (rule == 0) {
+    if (told.rule == 0) {
         prepare_pair(true);
         return;
     }
-    due(rule, record, 0);
+    due(told.rule, told.record, 0);
     size_t room = one_in(2) ? below(draft_n) : draft_n, places = below(8);
     prepare(room, places);
 }
@@ -45,18 +58,18 @@ static void restore_it(uint64_t rule)
     restore(draft_n);
 }
 
-static void show_any(uint64_t rule, uint64_t record)
+static void show_any(verdict told)
 {
     uint64_t field = below(11);
-    show_part(one_in(3) ? below(payments + 3) : record, field, rule == 0 || rule >= 10);
+    show_part(one_in(3) ? below(payments + 3) : told.record, field, told.rule == 0 || told.rule >= 10);
 }
 
-void another_call(size_t turn, uint64_t rule, uint64_t record)
+void another_call(size_t turn, verdict told)
 {
     switch (turn % 4) {
-    case 0: judge_a_taken_number(rule, record); break;
-    case 1: prepare_it(rule, record); break;
-    case 2: restore_it(rule); break;
-    default: show_any(rule, record);
+    case 0: judge_a_taken_number(told); break;
+    case 1: prepare_it(told); break;
+    case 2: restore_it(told.rule); break;
+    default: show_any(told);
     }
 }
