@@ -22,19 +22,21 @@ fn say_number(name: &[u8], n: u64) {
     io::print_decimal(STDOUT_FILENO, n);
 }
 
-// A line: the edge, its number and record.
-fn tell(edge: &[u8], number: usize, rec: usize) {
+fn say_answer(edge: &[u8], number: usize, rec: usize) {
     say(edge);
     say_number(b": ", number as u64);
     say_number(b" at ", rec as u64);
+}
+
+// A line: the edge, its number and record.
+fn tell(edge: &[u8], number: usize, rec: usize) {
+    say_answer(edge, number, rec);
     say(b"\n");
 }
 
-// The same with the place in the record.
+// The same with the place in the record, which the judge tells.
 fn tell_place(edge: &[u8], number: usize, rec: usize, at: usize) {
-    say(edge);
-    say_number(b": ", number as u64);
-    say_number(b" at ", rec as u64);
+    say_answer(edge, number, rec);
     say_number(b", place ", at as u64);
     say(b"\n");
 }
