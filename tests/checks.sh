@@ -52,3 +52,10 @@ payments() {
     for _ in $(seq "$1"); do printf %s "$payment"; done
     printf '0256Z%015d%015d%221s' $((120 * $1)) "$1" ''
 }
+
+# sample_with BYTE PLACE: the sound sample with that byte at that place, which counts from 0
+sample_with() {
+    head -c "$2" samples/sound.dtazv
+    printf %s "$1"
+    tail -c +$(($2 + 2)) samples/sound.dtazv
+}

@@ -28,17 +28,34 @@ fn words() {
     }
 }
 
+/// The judge's answers in crates/edges/stdout, by the papers: number, record and place. Its files have two payments, or
+/// eleven, so Z is record 3, or 12.
+fn answers() -> Vec<Refusal> {
+    let rows = include_str!("../crates/edges/stdout").lines().filter_map(|row| {
+        let (number, rest) = row.rsplit_once(": ")?.1.split_once(" at ")?;
+        let (record, at) = rest.split_once(", place ")?;
+        let [number, record, at] = [number, record, at].map(|digits| digits.parse().unwrap());
+        Some(Refusal { number, record, at })
+    });
+    rows.collect()
+}
+
 #[test]
 fn kinds() {
-    for number in 0..=100 {
-        let kind = match number {
-            10..=16 => Some('Q'),
-            20..=35 => Some('T'),
-            40..=42 => Some('Z'),
-            _ => None,
-        };
-        assert_eq!(Refusal { number, record: 0, at: 0 }.kind(), kind, "{number}");
+    let mut numbers = Vec::new();
+    for refusal in answers() {
+        let Refusal { number, record, at } = refusal;
+        let kind = (at > 0).then_some(if record == 0 { 'Q' } else if record % 9 == 3 { 'Z' } else { 'T' });
+        assert_eq!(refusal.kind(), kind, "{number}");
         assert_eq!(c::kind(number), kind, "{number}");
+        assert_eq!(refusal.columns().map(|columns| columns.first), kind.map(|_| at + 1), "{number}");
+        numbers.push(number);
+    }
+    let every_rule_but_1 = (0..=6).chain(10..=16).chain(20..=35).chain(40..=42).chain([50]).filter(|&n| n != 1);
+    assert!(every_rule_but_1.into_iter().all(|number| numbers.contains(&number)));
+    for number in (60..=100).chain([1]) {
+        assert_eq!(Refusal { number, record: 0, at: 0 }.kind(), None, "{number}");
+        assert_eq!(c::kind(number), None, "{number}");
     }
 }
 
@@ -71,6 +88,7 @@ fn fields_and_columns() {
 #[test]
 fn lines() {
     let lines = [
+        (0, 0, 0, "number 0: no rule of the desk"),
         (1, 0, 0, "rule 1 at record 0: file longer than 7,679,744 bytes (9,999 payments)"),
         (5, 4, 0, "rule 5 at record 4: bytes after Z"),
         (15, 0, 177, "rule 15 at record 0, Q9, column 178: Q9 is not N"),

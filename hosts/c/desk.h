@@ -55,6 +55,7 @@ enum desk_number {
     DESK_NO_SUCH_PAIR = 70         /* restore: no sound file yields this pair */
 };
 
+/* The judge's answer has grown (at): a host that was built with an older header is to be compiled anew. */
 typedef struct { uint64_t number, record, at, payments, euros, cents; } desk_judgement;
 typedef struct { uint64_t number, record, notes; } desk_prepared;
 typedef struct { uint64_t number, record; } desk_restored;

@@ -87,7 +87,7 @@ void desk_refusal_line(char line[DESK_LINE], uint64_t number, uint64_t record, u
 {
     const char *words = desk_words(number);
     char kind = desk_kind(number);
-    bool is_rule = kind || number <= 5;
+    bool is_rule = kind || (number >= 1 && number <= 5);
     const desk_columns *found = desk_columns_at(kind, at);
     if (!is_rule)
         snprintf(line, DESK_LINE, "number %" PRIu64 ": %s", number, words);

@@ -12,7 +12,7 @@ extern "C" {
 /* A field's name, and its columns as a clerk counts them: from 1, and the last is included. */
 typedef struct { const char *field; uint64_t first, last; } desk_columns;
 
-/* When a rule is broken, or why else a call is refused; of a number that no call answers, "no rule of the desk". */
+/* When a rule is broken, or why else a call is refused. Of any other number, 0 among them, "no rule of the desk". */
 const char *desk_words(uint64_t number);
 
 /* The kind of record that breaks a rule: 'Q' for 10 to 16, 'T' for 20 to 35, 'Z' for 40 to 42; 0 for any other number. */

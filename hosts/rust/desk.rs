@@ -155,8 +155,8 @@ pub fn place(file: &[u8], record: u64, field: Field) -> Option<Range<usize>> {
 /// The field of a record of kind `Q`, `T` or `Z` in which an offset lies. `None` where it lies in none: in the length
 /// digits, in the letter, or beyond the record.
 pub fn columns_at(kind: char, offset: u64) -> Option<Columns> {
-    let fields = FIELDS.iter().map(|&(field, first, last)| Columns { field, first, last });
-    fields.filter(|row| row.field.starts_with(kind)).find(|row| offset < row.last && offset + 1 >= row.first)
+    let mut fields = FIELDS.into_iter().filter(|row| row.field.starts_with(kind));
+    fields.find(|row| offset < row.last && offset + 1 >= row.first)
 }
 
 impl Field {
@@ -207,7 +207,7 @@ impl Refusal {
 impl fmt::Display for Refusal {
     fn fmt(&self, f: &mut fmt::Formatter) -> fmt::Result {
         let Refusal { number, record, .. } = self;
-        let is_rule = self.kind().is_some() || *number <= 5;
+        let is_rule = self.kind().is_some() || (1..=5).contains(number);
         if is_rule {
             write!(f, "rule {number} at record {record}")?;
         } else {
@@ -272,52 +272,56 @@ const WORDS: [(u64, &str); 35] = [
     (70, "restore: no sound file yields this pair"),
 ];
 
-/// The fields of docs/RULES.md, 2: name, first and last column. A name begins with the letter of its record's kind.
-const FIELDS: [(&str, u64, u64); 43] = [
-    ("Q3", 6, 13),
-    ("Q4", 14, 23),
-    ("Q5", 24, 163),
-    ("Q6", 164, 169),
-    ("Q7", 170, 171),
-    ("Q8", 172, 177),
-    ("Q9", 178, 178),
-    ("Q10", 179, 180),
-    ("Q11", 181, 188),
-    ("Q12", 189, 256),
-    ("T3", 6, 13),
-    ("T4a", 14, 16),
-    ("T4b", 17, 26),
-    ("T5", 27, 32),
-    ("T6", 33, 40),
-    ("T7a", 41, 43),
-    ("T7b", 44, 53),
-    ("T8", 54, 64),
-    ("T9a", 65, 67),
-    ("T9b", 68, 207),
-    ("T10a", 208, 210),
-    ("T10b", 211, 350),
-    ("T11", 351, 420),
-    ("T12", 421, 455),
-    ("T13", 456, 458),
-    ("T14a", 459, 472),
-    ("T14b", 473, 475),
-    ("T15", 476, 615),
-    ("T16", 616, 617),
-    ("T17", 618, 619),
-    ("T18", 620, 621),
-    ("T19", 622, 623),
-    ("T20", 624, 648),
-    ("T21", 649, 650),
-    ("T22", 651, 652),
-    ("T23", 653, 679),
-    ("T24", 680, 714),
-    ("T25", 715, 715),
-    ("T26", 716, 766),
-    ("T27", 767, 768),
-    ("Z3", 6, 20),
-    ("Z4", 21, 35),
-    ("Z5", 36, 256),
+/// The fields of docs/RULES.md, 2. A name begins with the letter of its record's kind.
+const FIELDS: [Columns; 43] = [
+    columns("Q3", 6, 13),
+    columns("Q4", 14, 23),
+    columns("Q5", 24, 163),
+    columns("Q6", 164, 169),
+    columns("Q7", 170, 171),
+    columns("Q8", 172, 177),
+    columns("Q9", 178, 178),
+    columns("Q10", 179, 180),
+    columns("Q11", 181, 188),
+    columns("Q12", 189, 256),
+    columns("T3", 6, 13),
+    columns("T4a", 14, 16),
+    columns("T4b", 17, 26),
+    columns("T5", 27, 32),
+    columns("T6", 33, 40),
+    columns("T7a", 41, 43),
+    columns("T7b", 44, 53),
+    columns("T8", 54, 64),
+    columns("T9a", 65, 67),
+    columns("T9b", 68, 207),
+    columns("T10a", 208, 210),
+    columns("T10b", 211, 350),
+    columns("T11", 351, 420),
+    columns("T12", 421, 455),
+    columns("T13", 456, 458),
+    columns("T14a", 459, 472),
+    columns("T14b", 473, 475),
+    columns("T15", 476, 615),
+    columns("T16", 616, 617),
+    columns("T17", 618, 619),
+    columns("T18", 620, 621),
+    columns("T19", 622, 623),
+    columns("T20", 624, 648),
+    columns("T21", 649, 650),
+    columns("T22", 651, 652),
+    columns("T23", 653, 679),
+    columns("T24", 680, 714),
+    columns("T25", 715, 715),
+    columns("T26", 716, 766),
+    columns("T27", 767, 768),
+    columns("Z3", 6, 20),
+    columns("Z4", 21, 35),
+    columns("Z5", 36, 256),
 ];
+
+const fn columns(field: &'static str, first: u64, last: u64) -> Columns {
+    Columns { field, first, last }
+}
 
 /// A call's answer where its number is 0, and otherwise the refusal.
 fn answer<T>(refusal: Refusal, sound: T) -> Result<T, Refusal> {

@@ -69,7 +69,7 @@ static void each_non_digit_in_t14b(size_t record, uint64_t euros)
             }
 }
 
-/* An amount of 120 is none of zeros, whichever of its digits is a zero. */
+/* 120 with any one byte made 0 is still not zero. */
 void each_amount(void)
 {
     for (payment_kind kind = BIC_ALONE; kind <= CHEQUE; kind++)

@@ -228,7 +228,7 @@ static void zeros(void)
     judge_draft(4, 0);
 }
 
-/* The example with other bytes at one place, and the code that is then due. */
+/* The example with other bytes at one place, and the code that is then due; of_code has the place that is due with it. */
 typedef struct { size_t record; int at; const char *bytes; uint64_t code; } edge;
 
 static void run_edges(const edge *e, size_t count)

@@ -3,6 +3,7 @@ pub mod Alone
 pub mod Ranges
 pub mod Turns
 pub mod Fitting
+pub mod Rising
 pub mod Where
 pub mod Demand2
 pub mod Only

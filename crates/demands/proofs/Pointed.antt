@@ -1,4 +1,4 @@
--- Where the judge's answer points: the rules that read one field alone, and the answers that point nowhere.
+-- Where the judge's answer points: the rules that one field alone can break, and the answers that point nowhere.
 use Prim.Native.Nat.{ℕ, _-_, _≤_}
 use Prim.Native.Char.{code}
 use mathlib.Core.Path.{_≡_, refl, sym, subst, _∙_}
@@ -10,6 +10,9 @@ use borrow.Author.Tests.{eqb-true, eqb-false, ltb-true, ltb-false}
 use lib.Dec.{eqb, ltb, lit≤}
 use lib.ListN.{length}
 use Rattle.laws.specs.Choice.{either}
+use Rattle.records.specs.Places.{tPlace, zPlace}
+use Rattle.records.specs.declared.TField.the-variants.{T9b, T10b, T14a, T14b}
+use Rattle.records.specs.declared.ZField.the-variants.{Z3, Z4}
 use Rattle.fields.specs.Lists.{isTaken}
 use Rattle.rules.specs.Wrong.{Fields}
 use Rattle.payments.specs.Rules.{keyOf, isTransfer, fields27}
@@ -20,7 +23,7 @@ use Rattle.judge.specs.Verdict.{verdictOf, judgeOf, JudgedAs}
 use Rattle.judge.specs.declared.Verdict.{Verdict}
 use Rattle.report.specs.Annexes.{annexI, annexII}
 use Rattle.demands.specs.Demand1.{FileRule}
-use Rattle.demands.specs.Where.{qFields, tFields, zFields, ofRule, fieldsOf, WrongAt, inEuros, Points, Named, JudgeNames, JudgeAtZero, TellAtZero}
+use Rattle.demands.specs.Where.{qFields, tFields, zFields, ofRule, fieldsOf, WrongAt, pointsToT14a, Points, Named, PlacesNamed, JudgeAtZero, TellAtZero}
 use Rattle.demands.specs.Program.{verdictIn}
 use Rattle.demands.proofs.Demand1.{told, judge-numbers}
 use Rattle.demands.proofs.Demand2.{low, judged}
@@ -74,11 +77,11 @@ module _ (transfer cheque file : List ℕ) (v : Verdict) where
   named p =
       record {
         rule27 =
-            at-place 27 67 (λ rec. tt) (λ key rec. either (AllAt 67) (isTransfer rec) (fields27 0 rec) [] (refl, tt) tt) (λ n e rec. tt)
+            at-place 27 (tPlace T9b .start) (λ rec. tt) (λ key rec. either (AllAt (tPlace T9b .start)) (isTransfer rec) (fields27 0 rec) [] (refl, tt) tt) (λ n e rec. tt)
             (lit≤ tt) (λ e. omega (arith, e)) (λ e. omega (arith, e)) p;
-        rule29 = at-place 29 210 (λ rec. tt) (λ key rec. (refl, (refl, tt))) (λ n e rec. tt) (lit≤ tt) (λ e. omega (arith, e)) (λ e. omega (arith, e)) p;
-        rule41 = at-place 41 20 (λ rec. tt) (λ key rec. tt) (λ n e rec. (refl, tt)) (lit≤ tt) (λ e. omega (arith, e)) (λ e. omega (arith, e)) p;
-        rule42 = at-place 42 5 (λ rec. tt) (λ key rec. tt) (λ n e rec. (refl, tt)) (lit≤ tt) (λ e. omega (arith, e)) (λ e. omega (arith, e)) p;
+        rule29 = at-place 29 (tPlace T10b .start) (λ rec. tt) (λ key rec. (refl, (refl, tt))) (λ n e rec. tt) (lit≤ tt) (λ e. omega (arith, e)) (λ e. omega (arith, e)) p;
+        rule41 = at-place 41 (zPlace Z4 .start) (λ rec. tt) (λ key rec. tt) (λ n e rec. (refl, tt)) (lit≤ tt) (λ e. omega (arith, e)) (λ e. omega (arith, e)) p;
+        rule42 = at-place 42 (zPlace Z3 .start) (λ rec. tt) (λ key rec. tt) (λ n e rec. (refl, tt)) (lit≤ tt) (λ e. omega (arith, e)) (λ e. omega (arith, e)) p;
       }
 
   -- a content rule points to a field, and none stands at 0
@@ -88,7 +91,7 @@ module _ (transfer cheque file : List ℕ) (v : Verdict) where
       go : (b : Bool) → eqb (v .number) 33 ≡ b → 5 ≤ v .at
       go true e =
           subst (λ (at : ℕ). 5 ≤ at) (sym (p .amount (eqb-true (v .number) 33 e)))
-          (either (λ (at : ℕ). 5 ≤ at) (inEuros (slotAt file (v .rec))) 458 472 (lit≤ tt) (lit≤ tt))
+          (either (λ (at : ℕ). 5 ≤ at) (pointsToT14a (slotAt file (v .rec))) (tPlace T14a .start) (tPlace T14b .start) (lit≤ tt) (lit≤ tt))
       go false e =
           let other = eqb-false (v .number) 33 e in
           placed 0 transfer cheque file (v .rec) (v .number) (v .at) other (p .lowest l other .wrong)
@@ -110,8 +113,8 @@ module _ (transfer cheque file : List ℕ) (v : Verdict) where
       back (inl l) = p .1 .nowhere l
       back (inr e) = p .1 .nowhere (below (p .0) e)
 
-pub judge-names : JudgeNames
-judge-names file transfer cheque taken answer promise =
+pub places-named : PlacesNamed
+places-named file transfer cheque taken answer promise =
     named transfer cheque file answer (subst (Pointed file transfer cheque) (sym promise) (pointed file transfer cheque taken))
 
 pub judge-at-zero : JudgeAtZero

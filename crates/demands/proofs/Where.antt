@@ -1,17 +1,17 @@
--- The fields of each rule but 33 stand by rising place, so that the first wrong one is the lowest-placed. Rule 33's place, by
--- its four tests.
+-- The fields of each rule but 33 stand by rising place, so that the place that the rule answers is the lowest-placed one's.
+-- Rule 33's place, by its four tests. And there is one place.
 use Prim.Native.Nat.{ℕ, _-_, _≤_}
 use Prim.Native.Char.{code}
 use mathlib.Core.Path.{_≡_, refl, sym, ap, subst, _∙_}
-use mathlib.Core.Bool.{Bool, true, false, _&&_, _||_, not, cond, false≢true}
+use mathlib.Core.Bool.{Bool, true, false, _&&_, _||_, not, cond}
 use mathlib.Core.List.{List, [], _∷_}
 use mathlib.Core.Logic.{_⊎_, inl, inr}
-use native.Mathlib.Nat.{le-refl}
 use native.Mathlib.Omega.{arith}
-use borrow.Author.Tests.{eqb-true}
-use lib.Dec.{eqb, leb, T, leb→le}
+use borrow.Author.Tests.{eqb-true, eqb-false}
+use lib.Dec.{eqb, T}
 use lib.ListN.{getD}
 use Rattle.laws.specs.Choice.{either}
+use Rattle.records.specs.Places.{tPlace}
 use Rattle.records.specs.declared.TField.the-variants.{T14a, T14b}
 use Rattle.fields.specs.Class.{allOf}
 use Rattle.fields.specs.declared.Class.the-variants.{Digit}
@@ -25,51 +25,9 @@ use Rattle.structure.specs.Slots.{slotAt}
 use Rattle.structure.specs.Walk.{letterOf}
 use Rattle.judge.specs.Sums.{euroSum}
 use Rattle.demands.specs.Broken.{says}
-use Rattle.demands.specs.Where.{only, qFields, tFields, zFields, ofRule, fieldsOf, WrongAt, Lowest, amountZero, amountAt, Points}
-use Rattle.demands.proofs.Ranges.{q-range, t-range, z-range}
-
--- by rising place, from an offset on
-abbrev rises : ℕ → Fields → Bool
-rises from [] = true
-rises from (field ∷ fields) = leb from (field .0) && rises (field .0) fields
-
-first-rises : (from : ℕ) (field : ℕ × Bool) (fields : Fields) → T (rises from (field ∷ fields)) → (from ≤ field .0) × T (rises (field .0) fields)
-first-rises from field fields t = go (leb from (field .0)) refl t
-  where
-    go : (b : Bool) → leb from (field .0) ≡ b → T (b && rises (field .0) fields) → (from ≤ field .0) × T (rises (field .0) fields)
-    go true e t = (leb→le from (field .0) (subst T (sym e) tt), t)
-    go false e t = absurd t
-
--- so a wrong field is not below the first offset
-above : (from : ℕ) (fields : Fields) → T (rises from fields) → (at : ℕ) → WrongAt fields at → from ≤ at
-above from [] t at w = absurd w
-above from (field ∷ fields) t at (inl w) = omega (arith, first-rises from field fields t .0, w .0)
-above from (field ∷ fields) t at (inr w) =
-    let r = first-rises from field fields t in
-    omega (arith, r .0, above (field .0) fields (r .1) at w)
-
-lowest-first : (from : ℕ) (fields : Fields) → T (rises from fields) → (firstWrong fields ≡ 0 → ⊥) → Lowest fields (firstWrong fields)
-lowest-first from [] t n = absurd (n refl)
-lowest-first from (field ∷ fields) t n = go (field .1) refl n (lowest-first (field .0) fields (r .1))
-  where
-    r : (from ≤ field .0) × T (rises (field .0) fields)
-    r = first-rises from field fields t
-
-    later : (at : ℕ) → field .1 ≡ true → ((other : ℕ) → WrongAt fields other → at ≤ other)
-        → (other : ℕ) → WrongAt (field ∷ fields) other → at ≤ other
-    later at e low other (inl w) = absurd (false≢true (sym (w .1) ∙ e))
-    later at e low other (inr w) = low other w
-
-    first : (other : ℕ) → WrongAt (field ∷ fields) other → field .0 ≤ other
-    first other (inl w) = omega (arith, w .0)
-    first other (inr w) = above (field .0) fields (r .1) other w
-
-    go : (right : Bool) → field .1 ≡ right → (cond right (firstWrong fields) (field .0) ≡ 0 → ⊥)
-        → ((firstWrong fields ≡ 0 → ⊥) → Lowest fields (firstWrong fields)) → Lowest (field ∷ fields) (cond right (firstWrong fields) (field .0))
-    go true e n rest =
-        let l = rest n in
-        record { wrong = inr (l .wrong); lowest = later (firstWrong fields) e (l .lowest) }
-    go false e n rest = record { wrong = inl (refl, e); lowest = first }
+use Rattle.demands.specs.Where.{only, qFields, tFields, zFields, ofRule, fieldsOf, WrongAt, Lowest, amountZero, amountAt, Points, PlaceIsOne}
+use Rattle.demands.proofs.Ranges.{q-range, z-range}
+use Rattle.demands.proofs.Rising.{rises, above, lowest-first}
 
 -- what the rules answer, by their fields
 abbrev answers : List (ℕ × Fields) → List (ℕ × ℕ)
@@ -103,70 +61,42 @@ rise-at (row ∷ rows) all rule n = go (eqb rule (row .0)) refl (all .0) (rise-a
     go true e (inr t) rest = t
     go false e t rest = rest
 
+infixr 4 _also_
+_also_ : {A B : Type 0} → A → B → A × B
+a also b = (a, b)
+
+-- the tests, computed: by the payment's kind where a rule speaks of one
+q-rise : (page : ℕ) (rec : List ℕ) → AllRise (qFields page rec)
+q-rise page rec = inr tt also inr tt also inr tt also inr tt also inr tt also inr tt also inr tt also tt
+
+z-rise : (payments euros : ℕ) (rec : List ℕ) → AllRise (zFields payments euros rec)
+z-rise payments euros rec = inr tt also inr tt also inr tt also tt
+
+q-answers : (page : ℕ) (rec : List ℕ) → qRules page rec ≡ answers (qFields page rec)
+unfolding rule10 rule11 rule12 rule13 rule14 rule15 rule16
+q-answers page rec = refl
+
+z-answers : (payments euros : ℕ) (rec : List ℕ) → zRules payments euros rec ≡ answers (zFields payments euros rec)
+unfolding rule40 rule41 rule42
+z-answers payments euros rec = refl
+
 module _ (page : ℕ) (transfer cheque key rec : List ℕ) where
-  -- the tests, computed: by the payment's kind where the rule speaks of one
   cheques : (fields : Fields) → Rising fields → Rising (only (isCheque rec) fields)
   cheques fields t = either Rising (isCheque rec) fields [] t tt
 
   transfers : (fields rest : Fields) → Rising fields → Rising rest → Rising (cond (isTransfer rec) fields rest)
   transfers fields rest t u = either Rising (isTransfer rec) fields rest t u
 
-  q-rise : AllRise (qFields page rec)
-  q-rise = (inr tt, (inr tt, (inr tt, (inr tt, (inr tt, (inr tt, (inr tt, tt)))))))
-
   t-rise : AllRise (tFields page transfer cheque key rec)
-  t-rise = (
-    inr tt,
-    (
-      inr tt,
-      (
-        inr tt,
-        (
-          inr tt,
-          (
-            inr tt,
-            (
-              inr (cheques (fields25 page rec) tt),
-              (
-                inr (transfers (fields26 page transfer rec) [] tt tt),
-                (
-                  inr (transfers (fields27 page rec) [] tt tt),
-                  (
-                    inr (transfers (fields28 transfer rec) _ tt (cheques (fields28 cheque rec) tt)),
-                    (
-                      inr tt,
-                      (
-                        inr tt,
-                        (
-                          inr (transfers (transfers31 page rec) _ tt (cheques (cheques31 page rec) tt)),
-                          (
-                            inr tt,
-                            (inl refl, (inr tt, (inr tt, tt))),
-                          ),
-                        ),
-                      ),
-                    ),
-                  ),
-                ),
-              ),
-            ),
-          ),
-        ),
-      ),
-    ),
-  )
-
-  z-rise : (payments euros : ℕ) → AllRise (zFields payments euros rec)
-  z-rise payments euros = (inr tt, (inr tt, (inr tt, tt)))
-
-  -- each rule answers the first wrong one of its fields
-  q-answers : qRules page rec ≡ answers (qFields page rec)
-  unfolding rule10 rule11 rule12 rule13 rule14 rule15 rule16
-  q-answers = refl
-
-  z-answers : (payments euros : ℕ) → zRules payments euros rec ≡ answers (zFields payments euros rec)
-  unfolding rule40 rule41 rule42
-  z-answers payments euros = refl
+  t-rise =
+      inr tt also inr tt also inr tt also inr tt also inr tt
+      also inr (cheques (fields25 page rec) tt)
+      also inr (transfers (fields26 page transfer rec) [] tt tt)
+      also inr (transfers (fields27 page rec) [] tt tt)
+      also inr (transfers (fields28 transfer rec) _ tt (cheques (fields28 cheque rec) tt))
+      also inr tt also inr tt
+      also inr (transfers (transfers31 page rec) _ tt (cheques (cheques31 page rec) tt))
+      also inr tt also inl refl also inr tt also inr tt also tt
 
   by-kind : (x y : Fields) → cond (isTransfer rec) (firstWrong x) (cond (isCheque rec) (firstWrong y) 0) ≡ firstWrong (cond (isTransfer rec) x (only (isCheque rec) y))
   by-kind x y =
@@ -184,15 +114,21 @@ module _ (page : ℕ) (transfer cheque key rec : List ℕ) where
       ∷ (31, by-kind (transfers31 page rec) (cheques31 page rec) i)
       ∷ (32, rule32 rec) ∷ (33, rule33 rec) ∷ (34, rule34 rec) ∷ (35, rule35 rec) ∷ []
 
--- rule 33's sentence
+-- rule 33 by its four tests
+abbrev t14a : ℕ
+t14a = tPlace T14a .start
+
+abbrev t14b : ℕ
+t14b = tPlace T14b .start
+
 abbrev told : Bool → Bool → Bool → Bool → ℕ
-told a b zero last = cond a (cond b (cond (not zero) (cond last 0 472) 458) 472) 458
+told a b zero last = cond a (cond b (cond (not zero) (cond last 0 t14b) t14a) t14b) t14a
 
 amount-is : (rec : List ℕ) → (rule33 rec ≡ 0 → ⊥) → rule33 rec ≡ amountAt rec
 unfolding rule33
 amount-is rec = go (allOf Digit (inT T14a rec)) (allOf Digit (inT T14b rec)) (amountZero rec) (eqb (getD (inT T14b rec) 2 0) (code "0"))
   where
-    go : (a b zero last : Bool) → (told a b zero last ≡ 0 → ⊥) → told a b zero last ≡ cond (not a || (a && b && zero)) 458 472
+    go : (a b zero last : Bool) → (told a b zero last ≡ 0 → ⊥) → told a b zero last ≡ cond (not a || (a && b && zero)) t14a t14b
     go false b zero last n = refl
     go true false zero last n = refl
     go true true true last n = refl
@@ -222,17 +158,16 @@ module _ (page : ℕ) (transfer cheque file : List ℕ) where
           (cond t (byNumber (tRules page transfer cheque (keyOf (slotAt file 1)) (slotAt file rec)) rule)
           (byNumber (zRules (rec - 1) (euroSum file (rec - 1)) (slotAt file rec)) rule))
           ≡ firstWrong (cond q (ofRule (ofQ rec) rule) (cond t (ofRule (ofT rec) rule) (ofRule (ofZ rec) rule)))
-      go true t = numbered (ofQ rec) (q-answers page transfer cheque (keyOf (slotAt file 1)) (slotAt file rec))
+      go true t = numbered (ofQ rec) (q-answers page (slotAt file rec))
       go false true = numbered (ofT rec) (t-answers page transfer cheque (keyOf (slotAt file 1)) (slotAt file rec))
       go false false =
-          numbered (ofZ rec) (z-answers page transfer cheque (keyOf (slotAt file 1)) (slotAt file rec) (rec - 1) (euroSum file (rec - 1)))
+          numbered (ofZ rec) (z-answers (rec - 1) (euroSum file (rec - 1)) (slotAt file rec))
 
   fields-rise : (rec rule : ℕ) → (rule ≡ 33 → ⊥) → Rising (fieldsOf page transfer cheque file rec rule)
   fields-rise rec rule n =
-      let key = keyOf (slotAt file 1) in
-      either Rising (eqb (letterOf (slotAt file rec)) (code "Q")) _ _ (rise-at (ofQ rec) (q-rise page transfer cheque key (slotAt file rec)) rule n)
-      (either Rising (eqb (letterOf (slotAt file rec)) (code "T")) _ _ (rise-at (ofT rec) (t-rise page transfer cheque key (slotAt file rec)) rule n)
-      (rise-at (ofZ rec) (z-rise page transfer cheque key (slotAt file rec) (rec - 1) (euroSum file (rec - 1))) rule n))
+      either Rising (eqb (letterOf (slotAt file rec)) (code "Q")) _ _ (rise-at (ofQ rec) (q-rise page (slotAt file rec)) rule n)
+      (either Rising (eqb (letterOf (slotAt file rec)) (code "T")) _ _ (rise-at (ofT rec) (t-rise page transfer cheque (keyOf (slotAt file 1)) (slotAt file rec)) rule n)
+      (rise-at (ofZ rec) (z-rise (rec - 1) (euroSum file (rec - 1)) (slotAt file rec)) rule n))
 
   -- no field stands at 0
   pub placed : (rec rule at : ℕ) → (rule ≡ 33 → ⊥) → WrongAt (fieldsOf page transfer cheque file rec rule) at → 5 ≤ at
@@ -274,3 +209,15 @@ module _ (page : ℕ) (transfer cheque file : List ℕ) where
   pub points-nowhere : (number rec : ℕ) → number ≤ 5 → Points page transfer cheque file number rec 0
   points-nowhere number rec h =
       record { nowhere = λ l. refl; lowest = λ l other. absurd (omega (arith, h, l)); amount = λ q. absurd (omega (arith, h, q)) }
+
+pub place-is-one : PlaceIsOne
+place-is-one page transfer cheque file number rec a b (inl l) p q = p .nowhere l ∙ sym (q .nowhere l)
+place-is-one page transfer cheque file number rec a b (inr l) p q = go (eqb number 33) refl
+  where
+    go : (t : Bool) → eqb number 33 ≡ t → a ≡ b
+    go true e = let s = eqb-true number 33 e in p .amount s ∙ sym (q .amount s)
+    go false e =
+        let other = eqb-false number 33 e in
+        let x = p .lowest l other in
+        let y = q .lowest l other in
+        omega (arith, x .none-lower b (y .wrong), y .none-lower a (x .wrong))

@@ -1,6 +1,6 @@
 -- Demand 2: "A file is sound exactly when it breaks no rule; otherwise the answer is the first broken rule in the stated
--- order, with its record." (RULES 7) With the place in it that document 02, A1, asks for. And what the judge answers of it
--- (RULES 9.2).
+-- order, with its record." (RULES 7) And the place in that record that document 02, A1, asks for (RULES 7.1). And what the
+-- judge answers of it (RULES 9.2).
 use Prim.Native.Nat.{ℕ}
 use mathlib.Core.Path.{_≡_}
 use mathlib.Core.List.{List}

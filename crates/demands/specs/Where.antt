@@ -1,6 +1,7 @@
 -- Document 02, A1 (RULES 7.1): "The judge's answer gets a third number: the offset, in its record, of the lowest-placed field
--- that breaks the reported rule." What breaks a rule is said once, by the rule's own definition: the fields that it reads,
--- each with its offset and whether it is as it should be.
+-- that breaks the reported rule." When a field breaks a rule is said once, in the rule's own definition: the fields that can
+-- break it, each with its offset and whether it is as it should be. Of which payments a rule speaks is said here again, and
+-- of rule 33 the paper's sentence; that all this agrees with what the rules answer is proved.
 use Prim.Native.Nat.{ℕ, _-_, _≤_}
 use Prim.Native.Char.{code}
 use mathlib.Core.Path.{_≡_}
@@ -24,11 +25,11 @@ use Rattle.judge.specs.declared.Verdict.{Verdict}
 use Rattle.report.specs.Report.{ToldAs}
 use Rattle.report.specs.declared.Report.{Report}
 
--- the fields that a rule reads in the payments of which it speaks
+-- in the payments of which a rule does not speak, no field breaks it
 abbrev pub only : Bool → Fields → Fields
-only spoken fields = cond spoken fields []
+only applies fields = cond applies fields []
 
--- the fields that each rule reads, by its number
+-- the fields that can break each rule, by its number
 abbrev pub qFields : ℕ → List ℕ → List (ℕ × Fields)
 qFields page rec =
     (10, fields10 rec) ∷ (11, fields11 rec) ∷ (12, fields12 page rec) ∷ (13, fields13 rec) ∷ (14, fields14 rec) ∷ (15, fields15 rec)
@@ -52,7 +53,7 @@ abbrev pub ofRule : List (ℕ × Fields) → ℕ → Fields
 ofRule [] rule = []
 ofRule (row ∷ rows) rule = cond (eqb rule (row .0)) (row .1) (ofRule rows rule)
 
--- the fields that a rule reads of record rec, by its letter; a Z speaks of the rec - 1 T records before it
+-- the fields of record rec that can break a rule, by the record's letter; a Z speaks of the rec - 1 T records before it
 abbrev pub fieldsOf : ℕ → List ℕ → List ℕ → List ℕ → ℕ → ℕ → Fields
 fieldsOf page transfer cheque file rec rule =
     cond (eqb (letterOf (slotAt file rec)) (code "Q")) (ofRule (qFields page (slotAt file rec)) rule)
@@ -67,24 +68,30 @@ WrongAt (field ∷ fields) at = ((field .0 ≡ at) × (field .1 ≡ false)) ⊎ 
 -- and it is the lowest-placed one
 pub record Lowest (fields : Fields) (at : ℕ) : Type 0 where
   pub wrong : WrongAt fields at
-  pub lowest : (other : ℕ) → WrongAt fields other → at ≤ other
+  pub none-lower : (other : ℕ) → WrongAt fields other → at ≤ other
 
 -- "Rule 33 points to T14a when T14a has a non-digit, or when T14a and T14b are all digits and the amount is zero; else to
 -- T14b."
 abbrev pub amountZero : List ℕ → Bool
 amountZero rec = allOf Zero (inT T14a rec) && allOf Zero (part (0 to 1) (inT T14b rec))
 
-abbrev pub inEuros : List ℕ → Bool
-inEuros rec = not (allOf Digit (inT T14a rec)) || (allOf Digit (inT T14a rec) && allOf Digit (inT T14b rec) && amountZero rec)
+abbrev pub pointsToT14a : List ℕ → Bool
+pointsToT14a rec = not (allOf Digit (inT T14a rec)) || (allOf Digit (inT T14a rec) && allOf Digit (inT T14b rec) && amountZero rec)
 
 abbrev pub amountAt : List ℕ → ℕ
-amountAt rec = cond (inEuros rec) (tPlace T14a .start) (tPlace T14b .start)
+amountAt rec = cond (pointsToT14a rec) (tPlace T14a .start) (tPlace T14b .start)
 
 -- where the answer to a file points: "Rules 1 to 6, 50 and a sound file give 0" (6 is the program's, 50 the judge's alone)
 pub record Points (page : ℕ) (transfer cheque file : List ℕ) (number rec at : ℕ) : Type 0 where
   pub nowhere : number ≤ 5 → at ≡ 0
   pub lowest : 10 ≤ number → (number ≡ 33 → ⊥) → Lowest (fieldsOf page transfer cheque file rec number) at
   pub amount : number ≡ 33 → at ≡ amountAt (slotAt file rec)
+
+-- an answer points to one place at most
+abbrev pub PlaceIsOne : Type 0
+PlaceIsOne =
+    (page : ℕ) (transfer cheque file : List ℕ) (number rec a b : ℕ) → (number ≤ 5) ⊎ (10 ≤ number)
+    → Points page transfer cheque file number rec a → Points page transfer cheque file number rec b → a ≡ b
 
 -- "Rules 27 and 29 point to T9b and T10b, rule 41 to 20, rule 42 to 5."
 pub record Named (number at : ℕ) : Type 0 where
@@ -93,8 +100,8 @@ pub record Named (number at : ℕ) : Type 0 where
   pub rule41 : number ≡ 41 → at ≡ 20
   pub rule42 : number ≡ 42 → at ≡ 5
 
-abbrev pub JudgeNames : Type 0
-JudgeNames =
+abbrev pub PlacesNamed : Type 0
+PlacesNamed =
     (file transfer cheque taken : List ℕ) (answer : Verdict) → JudgedAs file transfer cheque taken answer → Named (answer .number) (answer .at)
 
 -- "Rules 1 to 6, 50 and a sound file give 0", and nothing else does

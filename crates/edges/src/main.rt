@@ -1,4 +1,4 @@
-// Both sides of each edge of document 01, and the places of document 02, A1, run: a line for each.
+// Both sides of each edge of document 01, and where each rule points (document 02, A1), run: a line for each.
 use libc::STDOUT_FILENO;
 
 mod files;

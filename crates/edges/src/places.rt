@@ -10,7 +10,7 @@ fn alone(rule: &[u8], file: &[u8], at: usize, text: &[u8]) {
     crate::judge_at(rule, b", byte ", at, &wrong);
 }
 
-// The same at each of some places, with what stands at the places behind it too.
+// The same at each of some places, and then with the text at those behind it too.
 fn each(rule: &[u8], file: &[u8], places: &[usize], text: &[u8]) {
     let mut wrong = [32u8; 2048];
     crate::files::put(&mut wrong, 0, file);
@@ -20,8 +20,16 @@ fn each(rule: &[u8], file: &[u8], places: &[usize], text: &[u8]) {
         let at = places[i];
         alone(rule, file, at, text);
         crate::files::put(&mut wrong, at, text);
-        crate::judge_at(rule, b", from byte ", at, &wrong);
+        if i + 1 < places.len() {
+            crate::judge_at(rule, b", from byte ", at, &wrong);
+        }
     }
+}
+
+// Rules 3 and 4 point to no field.
+fn of_structure(file: &[u8]) {
+    alone(b"rule 3", file, 256, b"X");
+    alone(b"rule 4", file, 260, b"X");
 }
 
 fn of_q(file: &[u8]) {
@@ -41,6 +49,7 @@ fn of_t(file: &[u8]) {
     alone(b"rule 23", file, 906, b"X");
     alone(b"rule 24", file, 904, b"X");
     alone(b"rule 26", file, 320, b"X");
+    alone(b"rule 26, no BIC", file, 309, b"SC123456");
     alone(b"rule 27", file, 309, b"           US ");
     alone(b"rule 28", file, 463, b"X");
     alone(b"rule 29", file, 466, &BLANK_LINE);
@@ -51,7 +60,8 @@ fn of_t(file: &[u8]) {
     alone(b"rule 35", file, 971, b"X");
 }
 
-// A non-digit in T14a, in T14b, in both; an amount of zero, and one that is zero but for a digit too many.
+// Rule 33: a non-digit in T14a, in T14b, in both; a last digit that is not 0; amounts of zero, and next to it. One cent
+// passes, and Z3 is then wrong.
 fn of_the_amount(file: &[u8]) {
     alone(b"T14 0000000000012X 500", file, 714, b"0000000000012X500");
     alone(b"T14 00000000000120 50X", file, 714, b"0000000000012050X");
@@ -82,6 +92,8 @@ fn of_z(file: &[u8]) {
 
 pub fn edges() {
     let file = crate::files::example(b"ANNA BEISPIEL", b"M&M STUDIO");
+    crate::judge(b"rule 2", &file[0..2047], &[]);
+    of_structure(&file);
     of_q(&file);
     of_t(&file);
     of_the_amount(&file);

@@ -19,6 +19,7 @@ firstRule F lo hi k = first (breaks F k) (λ rule. rule) 0 (lo k) (hi k)
 abbrev pub faulty : (ℕ → ℕ → ℕ) → (ℕ → ℕ) → (ℕ → ℕ) → ℕ → Bool
 faulty F lo hi k = not (eqb (firstRule F lo hi k) 0)
 
+-- what is told of record k: its first broken rule, and the place that this rule answers
 abbrev pub toldAt : (ℕ → ℕ → ℕ) → (ℕ → ℕ) → (ℕ → ℕ) → ℕ → Breach
 toldAt F lo hi k = record { number = firstRule F lo hi k; rec = k; at = F k (firstRule F lo hi k) }
 

@@ -1,4 +1,5 @@
--- Document 01, "What each call answers": the judge (RULES 9.2).
+-- Document 01, "What each call answers": the judge (RULES 9.2). With the place of the field that breaks the rule, document
+-- 02, A1 (RULES 7.1): "Rules 1 to 6, 50 and a sound file give 0."
 use Prim.Native.Nat.{ℕ}
 use mathlib.Core.Path.{_≡_}
 use mathlib.Core.Bool.{cond}

@@ -19,7 +19,7 @@ pub struct Breach {
 }
 
 // The judge's answer. Number 0: sound, with the payments and both sums. Else the broken rule, its record, the place there
-// of the field that breaks it, and zeros.
+// of the field that breaks it (0 for rules 1 to 5 and for 50, which no field breaks), and zeros.
 #[repr(C)]
 pub struct Verdict {
     pub number: usize,
