@@ -3,8 +3,11 @@
 
    Lent memory passes as a pointer and a count of elements. A pointer is never null; where its count is 0, nothing is
    read or written through it. What is lent for writing (out, notes) overlaps nothing else that is lent. Any bytes, any
-   country lists and any room may be lent: every call ends with an answer or a numbered refusal, and a refused call
-   changes no byte that it was lent. Text is read by the DIN 66003 character table. */
+   country lists, any room and any page number may be handed in: every call ends with an answer or a numbered refusal, and
+   a refused call changes no byte that it was lent.
+
+   The page says at which codes the office writes the four German characters. It belongs to the file, as the country lists
+   do: a file is restored on the page on which it was prepared. */
 #ifndef DESK_H
 #define DESK_H
 
@@ -15,6 +18,12 @@
 extern "C" {
 #endif
 
+/* Code pages (docs/RULES.md, 3.1). Any other number is refused with 7. */
+enum desk_page {
+    DESK_DIN_66003 = 0,            /* hex 5B, 5C, 5D and 7E */
+    DESK_ISO_8859_1 = 1            /* hex C4, D6, DC and DF */
+};
+
 /* Refusal numbers. */
 enum desk_number {
     DESK_SOUND = 0,
@@ -23,6 +32,7 @@ enum desk_number {
     DESK_LENGTH_DIGITS = 3,        /* length digits wrong for the letter */
     DESK_LETTER = 4,               /* letter not allowed here */
     DESK_AFTER_Z = 5,              /* bytes after Z */
+    DESK_NO_SUCH_PAGE = 7,         /* code page neither 0 nor 1 */
     DESK_Q3 = 10,                  /* Q3 is not 50400042 */
     DESK_Q4 = 11,                  /* Q4 is not eight zeros and two digits */
     DESK_Q5 = 12,                  /* first line of Q5 blank */
@@ -61,7 +71,7 @@ typedef struct { uint64_t number, record, notes; } desk_prepared;
 typedef struct { uint64_t number, record; } desk_restored;
 typedef struct { uint64_t start, length; } desk_part;
 
-/* Judges a file without taken numbers: record * 100 + number; 0 for a sound file.
+/* Judges a file on page 0 (DIN 66003) without taken numbers: record * 100 + number; 0 for a sound file.
    transfer and cheque are country lists, two bytes a country; a lone last byte is ignored. */
 uint64_t desk_judge(const uint8_t *file, size_t n,
                     const uint8_t *transfer, size_t nt, const uint8_t *cheque, size_t nc);
@@ -69,23 +79,23 @@ uint64_t desk_judge(const uint8_t *file, size_t n,
 /* Judges a file, also by the taken file numbers; a file's number is its Q4, Q6 and Q7 as one number (docs/RULES.md, 5.6).
    Number 0: record and at 0, with the number of payments, the sum of their whole euros and the sum of their cents, which
    are not carried. Refused: the first broken rule, its record, at, and three zeros. at is the offset, in that record, of
-   the lowest-placed field that breaks the rule (words.h has its name and columns); it is 0 for rules 1 to 5. For 50 record
-   and at are 0. */
-desk_judgement desk_judge_full(const uint8_t *file, size_t n,
+   the lowest-placed field that breaks the rule (words.h has its name and columns); it is 0 for rules 1 to 5. For 7, which
+   comes before every other number, and for 50, which comes after, record and at are 0. */
+desk_judgement desk_judge_full(uint32_t page, const uint8_t *file, size_t n,
                                const uint8_t *transfer, size_t nt, const uint8_t *cheque, size_t nc,
                                const uint64_t *taken, size_t taken_n);
 
-/* Prepares a file for forwarding. Soundness first, then 60, then 61. Number 0: out begins with the forwarded file and
+/* Prepares a file for forwarding. 7 first, then soundness, 60 and 61. Number 0: out begins with the forwarded file and
    notes with a note for each changed character, by rising place: place in the file * 256 + original byte; the rest of both
    keeps its values; the answer's notes is how many there are. Refused: the number, and notes 0. The record is that of an
    unsound file's first broken rule, else 0. */
-desk_prepared desk_prepare(const uint8_t *file, size_t n,
+desk_prepared desk_prepare(uint32_t page, const uint8_t *file, size_t n,
                            const uint8_t *transfer, size_t nt, const uint8_t *cheque, size_t nc,
                            uint8_t *out, size_t out_n, uint32_t *notes, size_t notes_n);
 
-/* Restores the file that was prepared from the forwarded file and all of its notes. 60 first, then 70. Number 0: out
-   begins with the original, and the rest keeps its bytes. The record is always 0. */
-desk_restored desk_restore(const uint8_t *forwarded, size_t n, const uint32_t *notes, size_t notes_n,
+/* Restores the file that was prepared from the forwarded file and all of its notes. 7 first, then 60, then 70. Number 0:
+   out begins with the original, and the rest keeps its bytes. The record is always 0. */
+desk_restored desk_restore(uint32_t page, const uint8_t *forwarded, size_t n, const uint32_t *notes, size_t notes_n,
                            const uint8_t *transfer, size_t nt, const uint8_t *cheque, size_t nc,
                            uint8_t *out, size_t out_n);
 

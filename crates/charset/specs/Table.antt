@@ -1,8 +1,7 @@
--- Document 01, "Character table" (RULES 3): what the receiver carries, and what each other character becomes.
--- A-Z, a-z, 0-9, space and . , - / + % are unchanged. & becomes +, $ becomes S, and the four German characters become
--- A, O, U and S: page 0 reads them at their DIN 66003 codes, as document 01 says. Every other byte becomes a space. Other
--- pages, for document 02, A2, read the four at their ISO 8859-1 codes. The theorem, `rep-rep`: a replaced character is its
--- own replacement, on every page.
+-- Document 01, "Character table", and document 02, A2 (RULES 3): what the receiver carries, and what each other character
+-- becomes. A-Z, a-z, 0-9, space and . , - / + % are unchanged. & becomes +, $ becomes S, and the four German characters
+-- become A, O, U and S. Every other byte becomes a space. "The caller names the code page, 0 for DIN 66003, 1 for ISO
+-- 8859-1": by it the four are read. The theorem, `rep-rep`: a replaced character is its own replacement.
 use Prim.Native.Nat.{ℕ, zero, suc}
 use mathlib.Core.Path.{_≡_, refl, sym, ap, _∙_}
 use mathlib.Core.Bool.{Bool, true, false, _&&_, _||_, cond, false≢true}
@@ -23,7 +22,11 @@ abbrev pub unchanged : ℕ → Bool
 unchanged b =
     within (code "A") (code "Z") b || within (code "a") (code "z") b || within (code "0") (code "9") b || among (ascii " .,-/+%") b
 
--- the four German characters by page, and what they become
+-- the pages that there are. A call that names any other is refused before a table is read (demands/Page)
+abbrev pub isPage : ℕ → Bool
+isPage page = eqb page 0 || eqb page 1
+
+-- the four German characters at their codes on page 0 and on page 1, and what they become
 abbrev pub german : ℕ → List (ℕ × ℕ)
 german zero = (0x5B, code "A") ∷ (0x5C, code "O") ∷ (0x5D, code "U") ∷ (0x7E, code "S") ∷ []
 german (suc _) = (0xC4, code "A") ∷ (0xD6, code "O") ∷ (0xDC, code "U") ∷ (0xDF, code "S") ∷ []
@@ -44,7 +47,11 @@ rep page b = cond (unchanged b) b (look (exceptions page) b)
 abbrev pub text : ℕ → List ℕ → List ℕ
 text page s = map (rep page) s
 
--- all that is needed of a page: what its rows yield is unchanged. It is computed for both
+-- "What they need of a table is stated once and shown for both: a replaced character is its own replacement."
+abbrev pub OwnReplacement : (ℕ → ℕ) → Type 0
+OwnReplacement r = (b : ℕ) → r (r b) ≡ r b
+
+-- it is so where what the rows yield is unchanged, which is computed for both pages
 abbrev pub steady : List (ℕ × ℕ) → Bool
 steady [] = true
 steady (row ∷ rows) = unchanged (row .1) && steady rows
@@ -75,7 +82,7 @@ pub unchanged-rep : (page b : ℕ) → unchanged b ≡ true → rep page b ≡ b
 unfolding rep
 unchanged-rep page b e = rw e
 
-pub rep-rep : (page b : ℕ) → rep page (rep page b) ≡ rep page b
+pub rep-rep : (page : ℕ) → OwnReplacement (rep page)
 rep-rep page b = unchanged-rep page (rep page b) (rep-unchanged page b)
 
 -- a character is changed where it is not among the unchanged, whatever the page

@@ -1,6 +1,13 @@
 // The character table by code page: one character, and a stretch of text in place.
 ghost use mathlib.Core.Path.{_≡_};
-ghost use Rattle.charset.specs.Table.{unchanged, german, look, rep, text};
+ghost use Rattle.charset.specs.Table.{isPage, unchanged, german, look, rep, text};
+
+// Whether there is such a page: 0 is DIN 66003, 1 is ISO 8859-1.
+pub fn is_page(page: u32) -> bool
+    ensures { λ r. ⌜ r ≡ isPage page ⌝ }
+{
+    (page == 0) | (page == 1)
+}
 
 // Whether a character stays as it is, on every page. Comparisons alone: a loop over them is compiled to many bytes a step.
 pub fn unchanged(b: u8) -> bool
@@ -40,7 +47,7 @@ fn iso_8859_1(b: u8) -> u8
     }
 }
 
-// What a character becomes. Page 0 is DIN 66003, every other ISO 8859-1.
+// What a character becomes, by the German characters of its page.
 pub fn replaced(page: u32, b: u8) -> u8
     ensures { λ r. ⌜ r ≡ rep page b ⌝ }
 {

@@ -51,7 +51,7 @@ fn tell_whether(edge: &[u8], holds: bool) {
 }
 
 fn judge(edge: &[u8], file: &[u8], taken: &[u64]) {
-    let v = judge::judge(file, &LIST, &LIST, taken);
+    let v = judge::judge(0, file, &LIST, &LIST, taken);
     tell_place(edge, v.number, v.rec, v.at);
 }
 
@@ -111,7 +111,7 @@ fn patterned(notes: &[u32]) -> bool {
 
 // A call that is refused: output and note places come with a pattern, and the output's is given besides.
 fn refused(edge: &[u8], file: &[u8], out: &mut [u8], pattern: &[u8], notes: &mut [u32]) {
-    let p = prepare::prepare(file, &LIST, &LIST, out, notes);
+    let p = prepare::prepare(0, file, &LIST, &LIST, out, notes);
     tell(edge, p.number, p.rec);
     tell_whether(b"  output untouched", fields::same(out, pattern));
     tell_whether(b"  note places untouched", patterned(notes));
@@ -120,7 +120,7 @@ fn refused(edge: &[u8], file: &[u8], out: &mut [u8], pattern: &[u8], notes: &mut
 fn ample(file: &[u8]) {
     let mut out = [PATTERN; 2050];
     let mut notes = [NOTE_PATTERN; 3];
-    let p = prepare::prepare(file, &LIST, &LIST, &mut out, &mut notes);
+    let p = prepare::prepare(0, file, &LIST, &LIST, &mut out, &mut notes);
     tell(b"ample room", p.number, p.rec);
     tell_whether(
         b"  output behind untouched",
@@ -132,7 +132,7 @@ fn ample(file: &[u8]) {
 fn exact(file: &[u8]) {
     let mut out = [PATTERN; 2048];
     let mut notes = [NOTE_PATTERN; 2];
-    let p = prepare::prepare(file, &LIST, &LIST, &mut out, &mut notes);
+    let p = prepare::prepare(0, file, &LIST, &LIST, &mut out, &mut notes);
     tell(b"exact room", p.number, p.rec);
     restore(b"two notes, rising places", &out, &notes, file);
     restore(
@@ -180,7 +180,7 @@ fn prepare_edges() {
 // Restored into patterned room: whether the very file came back, or nothing was written.
 fn restore(edge: &[u8], forwarded: &[u8], notes: &[u32], file: &[u8]) {
     let mut out = [PATTERN; 2048];
-    let r = restore::restore(forwarded, notes, &LIST, &LIST, &mut out);
+    let r = restore::restore(0, forwarded, notes, &LIST, &LIST, &mut out);
     let number = r.number;
     tell(edge, number, r.rec);
     if number == 0 {
@@ -192,13 +192,13 @@ fn restore(edge: &[u8], forwarded: &[u8], notes: &[u32], file: &[u8]) {
 
 // Document 01's example: what the judge and prepare answer of it.
 fn example(file: &[u8], out: &mut [u8]) {
-    let v = judge::judge(file, &LIST, &LIST, &[]);
+    let v = judge::judge(0, file, &LIST, &LIST, &[]);
     tell_place(b"120,50 and 79,75", v.number, v.rec, v.at);
     say_number(b"  payments ", v.payments as u64);
     say_number(b", euros ", v.euros);
     say_number(b", cents ", v.cents);
     let mut notes = [NOTE_PATTERN; 2];
-    let p = prepare::prepare(file, &LIST, &LIST, out, &mut notes);
+    let p = prepare::prepare(0, file, &LIST, &LIST, out, &mut notes);
     say_number(b", notes ", p.notes as u64);
     say(b"\n");
     tell_whether(b"  its note is 316198", notes[0] == NOTE);

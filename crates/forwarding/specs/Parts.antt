@@ -6,6 +6,7 @@ use mathlib.Core.Bool.{Bool, true, false, _||_, cond}
 use mathlib.Core.List.{List, [], _∷_, _++_, map}
 use native.Mathlib.Omega.{arith}
 use lib.ListN.{length}
+use Rattle.charset.specs.Table.{OwnReplacement}
 use Rattle.forwarding.specs.Forwarded.{fwd, notes, differs}
 
 abbrev pub never : ℕ → Bool
@@ -83,7 +84,7 @@ module _ (r : ℕ → ℕ) (t : ℕ → Bool) where
       ap₂ _∷_ (ap (λ (k : ℕ). cond (t k) (r x) x) here) (ap (λ (k : ℕ). fwd r (λ n. t (n - a)) k xs) next ∙ fwd-from a (suc i) xs)
 
 -- a table whose characters are their own replacements, put to use twice
-module _ (r : ℕ → ℕ) (twice : (b : ℕ) → r (r b) ≡ r b) (t u : ℕ → Bool) where
+module _ (r : ℕ → ℕ) (twice : OwnReplacement r) (t u : ℕ → Bool) where
   pub fwd-fwd : (i : ℕ) (xs : List ℕ) → fwd r u i (fwd r t i xs) ≡ fwd r (λ k. t k || u k) i xs
   fwd-fwd i [] = refl
   fwd-fwd i (x ∷ xs) = ap₂ _∷_ (go (t i) (u i)) (fwd-fwd (suc i) xs)

@@ -11,7 +11,7 @@ use borrow.Author.Tests.{eq-eqb, ne-eqb, eqb-true, ltb-true, not-true, not-false
 use lib.Dec.{eqb, ltb, lit<, eqb·suc-zero}
 use lib.ListN.{length, getD}
 use Rattle.laws.specs.Choice.{either, both}
-use Rattle.charset.specs.Table.{unchanged, exceptions, look, rep, rep-rep}
+use Rattle.charset.specs.Table.{unchanged, exceptions, look, rep, OwnReplacement, rep-rep}
 use Rattle.forwarding.specs.Text.{textAt}
 use Rattle.forwarding.specs.Forwarded.{fwd, differs, notes, forwarded, notesOf}
 use Rattle.forwarding.specs.Parts.{fwd-length}
@@ -198,7 +198,7 @@ module _ (r : ℕ → ℕ) (isText : ℕ → Bool) where
       go false e = e
 
   -- a table whose replacements stay as they are: a forwarded list yields itself, with no notes
-  module _ (steady : (b : ℕ) → r (r b) ≡ r b) where
+  module _ (steady : OwnReplacement r) where
     settled : (i b : ℕ) → differs r isText i (cond (isText i) (r b) b) ≡ false
     settled i b = go (isText i)
       where

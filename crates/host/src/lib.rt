@@ -7,52 +7,55 @@ ghost use Rattle.prepare.specs.Prepared.{PreparedAs};
 ghost use Rattle.restore.specs.Restored.{RestoredAs};
 ghost use Rattle.host.specs.Answers.{CodedAs, PlacedAs};
 
-// The judge of document 01 for payroll hosts: no taken numbers, record × 100 + number.
+// The judge of document 01 for payroll hosts: page 0, no taken numbers, record × 100 + number.
 #[no_mangle]
 pub extern "C" fn desk_judge(file: &[u8], transfer: &[u8], cheque: &[u8]) -> usize
     ensures { λ r. ⌜ CodedAs (now (file .entry)) (now (transfer .entry)) (now (cheque .entry)) r ⌝ }
 {
     let none = [0u64; 1];
-    let found = judge::judge(file, transfer, cheque, &none[..0]);
+    let found = judge::judge(0, file, transfer, cheque, &none[..0]);
     found.rec * 100 + found.number
 }
 
 #[no_mangle]
 pub extern "C" fn desk_judge_full(
+    page: u32,
     file: &[u8],
     transfer: &[u8],
     cheque: &[u8],
     taken: &[u64],
 ) -> Verdict
-    ensures { λ r. ⌜ JudgedAs (now (file .entry)) (now (transfer .entry)) (now (cheque .entry)) (now (taken .entry)) r ⌝ }
+    ensures { λ r. ⌜ JudgedAs page (now (file .entry)) (now (transfer .entry)) (now (cheque .entry)) (now (taken .entry)) r ⌝ }
 {
-    judge::judge(file, transfer, cheque, taken)
+    judge::judge(page, file, transfer, cheque, taken)
 }
 
 #[no_mangle]
 pub extern "C" fn desk_prepare(
+    page: u32,
     file: &[u8],
     transfer: &[u8],
     cheque: &[u8],
     out: &mut [u8],
     notes: &mut [u32],
 ) -> Prepared
-    ensures { λ r. ⌜ PreparedAs 0 (now (file .entry)) (now (transfer .entry)) (now (cheque .entry)) (now (out .entry)) (now (notes .entry)) r (now (out .exit)) (now (notes .exit)) ⌝ }
+    ensures { λ r. ⌜ PreparedAs page (now (file .entry)) (now (transfer .entry)) (now (cheque .entry)) (now (out .entry)) (now (notes .entry)) r (now (out .exit)) (now (notes .exit)) ⌝ }
 {
-    prepare::prepare(file, transfer, cheque, out, notes)
+    prepare::prepare(page, file, transfer, cheque, out, notes)
 }
 
 #[no_mangle]
 pub extern "C" fn desk_restore(
+    page: u32,
     forwarded: &[u8],
     notes: &[u32],
     transfer: &[u8],
     cheque: &[u8],
     out: &mut [u8],
 ) -> Restored
-    ensures { λ r. ⌜ RestoredAs 0 (now (forwarded .entry)) (now (notes .entry)) (now (transfer .entry)) (now (cheque .entry)) (now (out .entry)) r (now (out .exit)) ⌝ }
+    ensures { λ r. ⌜ RestoredAs page (now (forwarded .entry)) (now (notes .entry)) (now (transfer .entry)) (now (cheque .entry)) (now (out .entry)) r (now (out .exit)) ⌝ }
 {
-    restore::restore(forwarded, notes, transfer, cheque, out)
+    restore::restore(page, forwarded, notes, transfer, cheque, out)
 }
 
 // Where a shown field stands in the file. Length 0: no such field.

@@ -10,6 +10,7 @@ use borrow.Author.Tests.{eqb-false, leb-true, leb-false}
 use lib.Dec.{eqb, leb, ltb, lit≤}
 use lib.ListN.{length}
 use Rattle.laws.specs.Choice.{either}
+use Rattle.charset.specs.Table.{isPage}
 use Rattle.fields.specs.Class.{same}
 use Rattle.fields.specs.Lists.{isTaken}
 use Rattle.structure.specs.Slots.{slotAt}
@@ -74,10 +75,12 @@ module _ (page : ℕ) (file transfer cheque : List ℕ) where
       go (Refused number k) (inr t) =
           (omega (arith, t .1 .broken, fault-small k (slotAt file k)), due-small file k (t .0) (t .1 .due))
 
-pub judge-small : (file transfer cheque taken : List ℕ) → Small (judgeOf file transfer cheque taken)
+pub judge-small : (page : ℕ) (file transfer cheque taken : List ℕ) → Small (judgeOf page file transfer cheque taken)
 unfolding judgeOf
-judge-small file transfer cheque taken =
-    let v = verdictOf 0 file transfer cheque in
-    let s = verdict-small 0 file transfer cheque in
-    either Small (eqb (v .number) 0) _ v
-    (either Small (isTaken taken (fileNumber (slotAt file 0))) (refused 50 0 0) v (lit≤ tt, lit≤ tt) s) s
+judge-small page file transfer cheque taken =
+    let v = verdictOf page file transfer cheque in
+    let s = verdict-small page file transfer cheque in
+    either Small (isPage page) _ (refused 7 0 0)
+    (either Small (eqb (v .number) 0) _ v
+    (either Small (isTaken taken (fileNumber (slotAt file 0))) (refused 50 0 0) v (lit≤ tt, lit≤ tt) s) s)
+    (lit≤ tt, lit≤ tt)

@@ -1,11 +1,12 @@
 -- The verdict by what the walk, the sums and the rules found.
 use Prim.Native.Nat.{ℕ}
 use mathlib.Core.Path.{_≡_, refl, sym, ap, ap₂, _∙_}
-use mathlib.Core.Bool.{Bool, true, false}
+use mathlib.Core.Bool.{Bool, true, false, not}
 use mathlib.Core.List.{List}
 use mathlib.Core.Logic.{inl, inr}
 use native.Mathlib.Omega.{arith}
-use Rattle.laws.specs.Choice.{on-eq, off-eq, on-call, off-call}
+use Rattle.laws.specs.Choice.{on-eq, off-eq, on-call, off-call, on-not, off-not}
+use Rattle.charset.specs.Table.{isPage}
 use Rattle.fields.specs.Lists.{isTaken}
 use Rattle.structure.specs.Slots.{slotAt}
 use Rattle.structure.specs.Walk.{structureOf}
@@ -52,21 +53,27 @@ module _ (page : ℕ) (file transfer cheque : List ℕ) where
       go (Refused number rec) e (inl t) z = absurd (omega (arith, t .1))
       go (Refused number rec) e (inr t) z = absurd (t .1 .real z)
 
--- the judge's answer by what was found: v the verdict, m the file's number, t whether it is taken
-module _ (file transfer cheque taken : List ℕ) {v : Verdict} (e : v ≡ verdictOf 0 file transfer cheque) where
-  by-verdict : {w : Verdict} → w ≡ orTaken v file taken → w ≡ judgeOf file transfer cheque taken
+-- the judge's answer by what was found: there whether the page exists, v the verdict, m the file's number, t whether it is
+-- taken
+module _ (page : ℕ) (file transfer cheque taken : List ℕ) {there : Bool} (known : there ≡ isPage page) where
+  pub judged-no-page : not there ≡ true → refused 7 0 0 ≡ judgeOf page file transfer cheque taken
   unfolding judgeOf
-  by-verdict h = h ∙ ap (λ (u : Verdict). orTaken u file taken) e
+  judged-no-page n = off-not _ known n refl
 
-  pub judged-refused : (v .number ≡ 0 → ⊥) → v ≡ judgeOf file transfer cheque taken
-  judged-refused z = by-verdict (off-eq _ z refl)
+  module _ (named : not there ≡ false) {v : Verdict} (e : v ≡ verdictOf page file transfer cheque) where
+    by-verdict : {w : Verdict} → w ≡ orTaken v file taken → w ≡ judgeOf page file transfer cheque taken
+    unfolding judgeOf
+    by-verdict h = on-not (refused 7 0 0) known named (h ∙ ap (λ (u : Verdict). orTaken u file taken) e)
 
-  module _ (z : v .number ≡ 0) {q : List ℕ} {m : ℕ} {t : Bool} (s : q ≡ slotAt file 0) (p : m ≡ fileNumber q) (r : t ≡ isTaken taken m) where
-    is-taken : t ≡ isTaken taken (fileNumber (slotAt file 0))
-    is-taken = r ∙ ap (isTaken taken) (p ∙ ap fileNumber s)
+    pub judged-refused : (v .number ≡ 0 → ⊥) → v ≡ judgeOf page file transfer cheque taken
+    judged-refused z = by-verdict (off-eq _ z refl)
 
-    pub judged-taken : t ≡ true → refused 50 0 0 ≡ judgeOf file transfer cheque taken
-    judged-taken y = by-verdict (on-eq _ z (on-call _ is-taken y refl))
+    module _ (z : v .number ≡ 0) {q : List ℕ} {m : ℕ} {t : Bool} (s : q ≡ slotAt file 0) (p : m ≡ fileNumber q) (r : t ≡ isTaken taken m) where
+      is-taken : t ≡ isTaken taken (fileNumber (slotAt file 0))
+      is-taken = r ∙ ap (isTaken taken) (p ∙ ap fileNumber s)
 
-    pub judged-free : t ≡ false → v ≡ judgeOf file transfer cheque taken
-    judged-free y = by-verdict (on-eq _ z (off-call (refused 50 0 0) is-taken y refl))
+      pub judged-taken : t ≡ true → refused 50 0 0 ≡ judgeOf page file transfer cheque taken
+      judged-taken y = by-verdict (on-eq _ z (on-call _ is-taken y refl))
+
+      pub judged-free : t ≡ false → v ≡ judgeOf page file transfer cheque taken
+      judged-free y = by-verdict (on-eq _ z (off-call (refused 50 0 0) is-taken y refl))

@@ -1,10 +1,11 @@
 -- Document 01, "What each call answers": the judge (RULES 9.2). With the place of the field that breaks the rule, document
--- 02, A1 (RULES 7.1): "Rules 1 to 6, 50 and a sound file give 0."
+-- 02, A1 (RULES 7.1): "Rules 1 to 6, 50 and a sound file give 0." And on the code page that the caller names, A2.
 use Prim.Native.Nat.{ℕ}
 use mathlib.Core.Path.{_≡_}
 use mathlib.Core.Bool.{cond}
 use mathlib.Core.List.{List}
 use lib.Dec.{eqb}
+use Rattle.charset.specs.Table.{isPage}
 use Rattle.fields.specs.Lists.{isTaken}
 use Rattle.structure.specs.Slots.{slotAt}
 use Rattle.structure.specs.Walk.{structureOf}
@@ -42,10 +43,10 @@ abbrev pub orTaken : Verdict → List ℕ → List ℕ → Verdict
 orTaken verdict file taken =
     cond (eqb (verdict .number) 0) (cond (isTaken taken (fileNumber (slotAt file 0))) (refused 50 0 0) verdict) verdict
 
--- the calls of document 01 read text on page 0
-unfoldable pub judgeOf : List ℕ → List ℕ → List ℕ → List ℕ → Verdict
-judgeOf file transfer cheque taken = orTaken (verdictOf 0 file transfer cheque) file taken
+-- Document 02, A2: "any other page number is 7, record and offset 0, before every other number" (RULES 8)
+unfoldable pub judgeOf : ℕ → List ℕ → List ℕ → List ℕ → List ℕ → Verdict
+judgeOf page file transfer cheque taken = cond (isPage page) (orTaken (verdictOf page file transfer cheque) file taken) (refused 7 0 0)
 
 -- what is promised of judging: the answer, for every input
-abbrev pub JudgedAs : List ℕ → List ℕ → List ℕ → List ℕ → Verdict → Type 0
-JudgedAs file transfer cheque taken answer = answer ≡ judgeOf file transfer cheque taken
+abbrev pub JudgedAs : ℕ → List ℕ → List ℕ → List ℕ → List ℕ → Verdict → Type 0
+JudgedAs page file transfer cheque taken answer = answer ≡ judgeOf page file transfer cheque taken

@@ -1,4 +1,4 @@
-// The judge: structure over the whole file, then content record by record, then the taken numbers.
+// The judge: the code page, structure over the whole file, then content record by record, then the taken numbers.
 use records::Q;
 use records::QField;
 use records::T;
@@ -19,7 +19,7 @@ pub struct Breach {
 }
 
 // The judge's answer. Number 0: sound, with the payments and both sums. Else the broken rule, its record, the place there
-// of the field that breaks it (0 for rules 1 to 5 and for 50, which no field breaks), and zeros.
+// of the field that breaks it (0 for rules 1 to 5, for 7 and for 50, which no field breaks), and zeros.
 #[repr(C)]
 pub struct Verdict {
     pub number: usize,
@@ -194,11 +194,14 @@ pub fn examine(page: u32, file: &[u8], transfer: &[u8], cheque: &[u8]) -> Verdic
     }
 }
 
-// The judge of document 01: the verdict on page 0, and then the taken numbers.
-pub fn judge(file: &[u8], transfer: &[u8], cheque: &[u8], taken: &[u64]) -> Verdict
-    ensures { λ r. ⌜ JudgedAs (now (file .entry)) (now (transfer .entry)) (now (cheque .entry)) (now (taken .entry)) r ⌝ }
+// A page that does not exist is 7, before anything is read; then the verdict, and then the taken numbers.
+pub fn judge(page: u32, file: &[u8], transfer: &[u8], cheque: &[u8], taken: &[u64]) -> Verdict
+    ensures { λ r. ⌜ JudgedAs page (now (file .entry)) (now (transfer .entry)) (now (cheque .entry)) (now (taken .entry)) r ⌝ }
 {
-    let found = examine(0, file, transfer, cheque);
+    if !charset::is_page(page) {
+        return refusal(7, 0, 0);
+    }
+    let found = examine(page, file, transfer, cheque);
     let number = found.number;
     if number != 0 {
         return found;

@@ -1,12 +1,14 @@
 -- The promise by what the code found: a refusal, which writes nothing, or success.
 use Prim.Native.Nat.{ℕ, _+_, _≤_, _<_}
 use mathlib.Core.Path.{_≡_, refl, sym, ap, _∙_}
+use mathlib.Core.Bool.{Bool, true, false, not}
 use mathlib.Core.List.{List, _++_}
 use native.Mathlib.Omega.{arith}
 use lib.ListN.{length, take, drop}
 use lib.Seq.{take-all}
-use Rattle.laws.specs.Choice.{on-lt, off-lt, on-eq, off-eq}
+use Rattle.laws.specs.Choice.{on-lt, off-lt, on-eq, off-eq, on-not, off-not}
 use Rattle.laws.specs.Steps.{empty}
+use Rattle.charset.specs.Table.{isPage}
 use Rattle.judge.specs.Verdict.{verdictOf}
 use Rattle.judge.specs.Told.{sound-fits}
 use Rattle.judge.specs.declared.Verdict.{Verdict}
@@ -73,26 +75,29 @@ module _ (page : ℕ) (file out notes : List ℕ) where
           notes-are = noted .places-are;
         }
 
--- soundness decides first
-module _ (page : ℕ) (file transfer cheque : List ℕ) {v : Verdict} (e : v ≡ verdictOf page file transfer cheque) where
-  pub sound-sized : v .number ≡ 0 → Sized file
-  sound-sized z =
-      let f = sound-fits page file transfer cheque (sym (ap (λ (v : Verdict). v .number) e) ∙ z) in
-      record { payments = f .0; long = f .2 .long; most = f .2 .most }
+pub sound-sized : (page : ℕ) (file transfer cheque : List ℕ) {v : Verdict} → v ≡ verdictOf page file transfer cheque → v .number ≡ 0 → Sized file
+sound-sized page file transfer cheque e z =
+    let f = sound-fits page file transfer cheque (sym (ap (λ (v : Verdict). v .number) e) ∙ z) in
+    record { payments = f .0; long = f .2 .long; most = f .2 .most }
 
-  module _ (out notes : List ℕ) where
+-- the page decides first, then soundness: there is whether the page exists, v the verdict
+module _ (page : ℕ) (file transfer cheque out notes : List ℕ) {there : Bool} (known : there ≡ isPage page) where
+  stops : {r : Prepared} {number rec : ℕ} → r ≡ notPrepared number rec → 0 < number → r ≡ prepareOf page file transfer cheque out notes
+      → PreparedAs page file transfer cheque out notes r out notes
+  stops e some q = record { answer-is = q; out-is = out-kept page file e some out; notes-are = notes-kept page file e some notes }
+
+  pub prepared-no-page : {r : Prepared} → not there ≡ true → r ≡ notPrepared 7 0 → PreparedAs page file transfer cheque out notes r out notes
+  unfolding prepareOf
+  prepared-no-page n q = stops q (omega arith) (off-not _ known n q)
+
+  module _ (named : not there ≡ false) {v : Verdict} (e : v ≡ verdictOf page file transfer cheque) where
     by-verdict : {r : Prepared} → r ≡ prepareBy v page file out notes → r ≡ prepareOf page file transfer cheque out notes
     unfolding prepareOf
-    by-verdict q = q ∙ ap (λ (v : Verdict). prepareBy v page file out notes) e
+    by-verdict q = on-not (notPrepared 7 0) known named (q ∙ ap (λ (v : Verdict). prepareBy v page file out notes) e)
 
     pub prepared-refused : {r : Prepared} → (v .number ≡ 0 → ⊥) → r ≡ notPrepared (v .number) (v .rec)
         → PreparedAs page file transfer cheque out notes r out notes
-    prepared-refused real q =
-        record {
-          answer-is = by-verdict (off-eq _ real q);
-          out-is = out-kept page file q (omega arith) out;
-          notes-are = notes-kept page file q (omega arith) notes;
-        }
+    prepared-refused real q = stops q (omega arith) (by-verdict (off-eq _ real q))
 
     pub prepared-sent : {r : Prepared} {out' notes' : List ℕ} → v .number ≡ 0 → SentAs page file out notes r out' notes'
         → PreparedAs page file transfer cheque out notes r out' notes'

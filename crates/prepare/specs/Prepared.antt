@@ -1,10 +1,11 @@
--- Document 01, "What each call answers": prepare (RULES 9.4), on a code page. The call of document 01 reads page 0.
+-- Document 01, "What each call answers": prepare (RULES 9.4), on the code page that the caller names (document 02, A2).
 use Prim.Native.Nat.{ℕ}
 use mathlib.Core.Path.{_≡_}
 use mathlib.Core.Bool.{cond}
 use mathlib.Core.List.{List}
 use lib.Dec.{eqb, ltb}
 use lib.ListN.{length}
+use Rattle.charset.specs.Table.{isPage}
 use Rattle.judge.specs.Verdict.{verdictOf}
 use Rattle.judge.specs.declared.Verdict.{Verdict}
 use Rattle.forwarding.specs.Forwarded.{forwarded, notesOf}
@@ -29,8 +30,10 @@ abbrev pub prepareBy : Verdict → ℕ → List ℕ → List ℕ → List ℕ �
 prepareBy verdict page file out notes =
     cond (eqb (verdict .number) 0) (sendOf page file out notes) (notPrepared (verdict .number) (verdict .rec))
 
+-- Document 02, A2: "any other page number is 7, record and offset 0, before every other number" (RULES 8)
 unfoldable pub prepareOf : ℕ → List ℕ → List ℕ → List ℕ → List ℕ → List ℕ → Prepared
-prepareOf page file transfer cheque out notes = prepareBy (verdictOf page file transfer cheque) page file out notes
+prepareOf page file transfer cheque out notes =
+    cond (isPage page) (prepareBy (verdictOf page file transfer cheque) page file out notes) (notPrepared 7 0)
 
 -- "If 0, the output begins with the forwarded file and the rest of it keeps its bytes"; else it keeps them all
 abbrev pub outputAfter : Prepared → ℕ → List ℕ → List ℕ → List ℕ

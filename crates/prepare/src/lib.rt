@@ -64,7 +64,9 @@ fn send(page: u32, file: &[u8], out: &mut [u8], notes: &mut [u32]) -> Prepared
     }
 }
 
-fn on_page(
+// A page that does not exist is 7, before anything is read; then soundness, then 60, then 61. The output and the notes only
+// where all is well.
+pub fn prepare(
     page: u32,
     file: &[u8],
     transfer: &[u8],
@@ -74,23 +76,13 @@ fn on_page(
 ) -> Prepared
     ensures { λ r. ⌜ PreparedAs page (now (file .entry)) (now (transfer .entry)) (now (cheque .entry)) (now (out .entry)) (now (notes .entry)) r (now (out .exit)) (now (notes .exit)) ⌝ }
 {
+    if !charset::is_page(page) {
+        return refusal(7, 0);
+    }
     let found = judge::examine(page, file, transfer, cheque);
     let number = found.number;
     if number != 0 {
         return refusal(number, found.rec);
     }
     send(page, file, out, notes)
-}
-
-// Prepare of document 01: soundness on page 0, then 60, then 61; the output and the notes only where all is well.
-pub fn prepare(
-    file: &[u8],
-    transfer: &[u8],
-    cheque: &[u8],
-    out: &mut [u8],
-    notes: &mut [u32],
-) -> Prepared
-    ensures { λ r. ⌜ PreparedAs 0 (now (file .entry)) (now (transfer .entry)) (now (cheque .entry)) (now (out .entry)) (now (notes .entry)) r (now (out .exit)) (now (notes .exit)) ⌝ }
-{
-    on_page(0, file, transfer, cheque, out, notes)
 }

@@ -1,6 +1,6 @@
 -- Document 01 (RULES 9.7): "The program reads standard input, at most 65,024 bytes (84 T records); more gives verdict 6
 -- at record 0 before any rule. It lends no taken numbers and counts the changed characters". "Refused: the last four
--- lines show 0."
+-- lines show 0." Document 02, A2: "The program uses page 1".
 use Prim.Native.Nat.{ℕ}
 use mathlib.Core.Path.{_≡_}
 use mathlib.Core.Bool.{cond}
@@ -18,11 +18,14 @@ abbrev pub lines : Verdict → ℕ → Report
 lines v changes =
     record { verdict = v .number; rec = v .rec; at = v .at; payments = v .payments; euros = v .euros; cents = v .cents; changes = changes }
 
+abbrev pub programPage : ℕ
+programPage = 1
+
 unfoldable pub reportOf : List ℕ → Report
 reportOf input =
     cond (ltb 65024 (length input)) (lines (refused 6 0 0) 0)
-    (let v = judgeOf input annexII annexI [] in
-    lines v (cond (eqb (v .number) 0) (length (notesOf 0 input)) 0))
+    (let v = judgeOf programPage input annexII annexI [] in
+    lines v (cond (eqb (v .number) 0) (length (notesOf programPage input)) 0))
 
 -- what is promised of telling: the seven numbers, for every input
 abbrev pub ToldAs : List ℕ → Report → Type 0

@@ -16,16 +16,17 @@ use Rattle.judge.specs.declared.Verdict.{Verdict}
 use Rattle.forwarding.specs.Forwarded.{notesOf}
 use Rattle.forwarding.specs.Sized.{Sized}
 use Rattle.report.specs.Annexes.{annexI, annexII}
-use Rattle.report.specs.Report.{lines, reportOf}
+use Rattle.report.specs.Report.{programPage, lines, reportOf}
 use Rattle.report.specs.declared.Report.{Report}
 
 -- what the judge does not refuse is sound
-judged-sound : (file transfer cheque taken : List ℕ) → judgeOf file transfer cheque taken .number ≡ 0 → verdictOf 0 file transfer cheque .number ≡ 0
+judged-sound : (file transfer cheque taken : List ℕ) → judgeOf programPage file transfer cheque taken .number ≡ 0
+    → verdictOf programPage file transfer cheque .number ≡ 0
 unfolding judgeOf
 judged-sound file transfer cheque taken z = go (eqb (v .number) 0) refl z
   where
     v : Verdict
-    v = verdictOf 0 file transfer cheque
+    v = verdictOf programPage file transfer cheque
 
     go : (b : Bool) → eqb (v .number) 0 ≡ b
         → cond b (cond (isTaken taken (fileNumber (slotAt file 0))) (refused 50 0 0) v) v .number ≡ 0
@@ -37,18 +38,18 @@ pub told-long : (input : List ℕ) → 65024 < length input → lines (refused 6
 unfolding reportOf
 told-long input h = on-lt _ h refl
 
-module _ (input : List ℕ) {v : Verdict} (short : length input ≤ 65024) (e : v ≡ judgeOf input annexII annexI []) where
-  by-verdict : {r : Report} → r ≡ lines v (cond (eqb (v .number) 0) (length (notesOf 0 input)) 0) → r ≡ reportOf input
+module _ (input : List ℕ) {v : Verdict} (short : length input ≤ 65024) (e : v ≡ judgeOf programPage input annexII annexI []) where
+  by-verdict : {r : Report} → r ≡ lines v (cond (eqb (v .number) 0) (length (notesOf programPage input)) 0) → r ≡ reportOf input
   unfolding reportOf
-  by-verdict h = off-lt _ short (h ∙ ap (λ (w : Verdict). lines w (cond (eqb (w .number) 0) (length (notesOf 0 input)) 0)) e)
+  by-verdict h = off-lt _ short (h ∙ ap (λ (w : Verdict). lines w (cond (eqb (w .number) 0) (length (notesOf programPage input)) 0)) e)
 
   pub told-refused : (v .number ≡ 0 → ⊥) → lines v 0 ≡ reportOf input
-  told-refused z = by-verdict (ap (lines v) (off-eq (length (notesOf 0 input)) z refl))
+  told-refused z = by-verdict (ap (lines v) (off-eq (length (notesOf programPage input)) z refl))
 
-  pub told-sound : {m : ℕ} → v .number ≡ 0 → m ≡ length (notesOf 0 input) → lines v m ≡ reportOf input
+  pub told-sound : {m : ℕ} → v .number ≡ 0 → m ≡ length (notesOf programPage input) → lines v m ≡ reportOf input
   told-sound z h = by-verdict (ap (lines v) (on-eq 0 z h))
 
   pub sized : v .number ≡ 0 → Sized input
   sized z =
-      let f = sound-fits 0 input annexII annexI (judged-sound input annexII annexI [] (sym (ap (λ (w : Verdict). w .number) e) ∙ z)) in
+      let f = sound-fits programPage input annexII annexI (judged-sound input annexII annexI [] (sym (ap (λ (w : Verdict). w .number) e) ∙ z)) in
       record { payments = f .0; long = f .2 .long; most = f .2 .most }

@@ -16,6 +16,9 @@ const ANNEX_II: [u8; 312] = *b"\
 
 const ANNEX_I: [u8; 44] = *b"ARBOBRCLCRDOSVECGTGBHNCACOMXNIPAPYPEPRUYUSVE";
 
+// The code page that the program reads text by: ISO 8859-1.
+const PAGE: u32 = 1;
+
 // What the program holds: 84 T records.
 const ROOM: usize = 65024;
 
@@ -60,7 +63,7 @@ pub fn tell(input: &[u8]) -> Report
     let transfer = ANNEX_II;
     let cheque = ANNEX_I;
     let none = [0u64; 1];
-    let found = judge::judge(input, &transfer, &cheque, &none[..0]);
+    let found = judge::judge(PAGE, input, &transfer, &cheque, &none[..0]);
     let number = found.number;
     if number != 0 {
         return lines(found, 0);

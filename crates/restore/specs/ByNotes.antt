@@ -12,6 +12,7 @@ use lib.ListN.{length, getD, drop, set, length-set, drop-of-length-le}
 use lib.Seq.{drop-cons, drop-set-lt, getD-set-same, getD-set-other, set-append-left}
 use Rattle.laws.specs.Choice.{both}
 use Rattle.laws.specs.Steps.{fold, next}
+use Rattle.charset.specs.Table.{OwnReplacement}
 use Rattle.forwarding.specs.Forwarded.{differs}
 use Rattle.forwarding.specs.Merge.{merged, becomes, accepts}
 
@@ -145,7 +146,7 @@ module _ (r : ℕ → ℕ) (isText : ℕ → Bool) (g : List ℕ) where
   pub merged-by-notes : (ns : List ℕ) → notesFit r isText g 0 ns ≡ true → merged 0 g ns ≡ putNotes g ns
   merged-by-notes ns f = merged-at g 0 ns g refl (omega arith) f
 
-  module _ (steady : (b : ℕ) → r (r b) ≡ r b) where
+  module _ (steady : OwnReplacement r) where
     -- a byte that another became is not changed
     became : (i was b : ℕ) → becomes r isText i was b ≡ true → not (differs r isText i b) ≡ true
     became i was b e =

@@ -12,6 +12,7 @@ use lib.Dec.{eqb, ltb}
 use lib.ListN.{length, take, drop}
 use lib.Seq.{take-at}
 use Rattle.laws.specs.Choice.{on, on-eq, off-eq, off-lt, both}
+use Rattle.charset.specs.Table.{isPage}
 use Rattle.judge.specs.Verdict.{verdictOf}
 use Rattle.judge.specs.declared.Verdict.{Verdict}
 use Rattle.forwarding.specs.Forwarded.{forwarded, notesOf}
@@ -75,11 +76,11 @@ module _ (page : ℕ) (transfer cheque : List ℕ) where
   -- what the promise of restore says of a pair
   module _ (sent notes out out' : List ℕ) (given : Restored) (promise : RestoredAs page sent notes transfer cheque out given out') where
     -- a sound file that yields the pair comes back
-    pub gives-back : (file : List ℕ) → SoundOrigin page transfer cheque file sent notes → length sent ≤ length out
+    pub gives-back : isPage page ≡ true → (file : List ℕ) → SoundOrigin page transfer cheque file sent notes → length sent ≤ length out
         → (given ≡ answer 0) × (out' ≡ put 0 file out)
     unfolding restoreOf
-    gives-back file o room =
-        let zero : given ≡ answer 0 = promise .answer-is ∙ sym (off-lt _ room (on _ (origin-yielded file sent notes o) refl)) in (
+    gives-back there file o room =
+        let zero : given ≡ answer 0 = promise .answer-is ∙ sym (on _ there (off-lt _ room (on _ (origin-yielded file sent notes o) refl))) in (
           zero,
           promise .out-is
               ∙ sym (on-eq _ (ap (λ (r : Restored). r .number) zero) refl)
@@ -93,32 +94,37 @@ module _ (page : ℕ) (transfer cheque : List ℕ) where
   -- what prepare left comes from the file that it prepared
   module _ (file out notes out' notes' : List ℕ) (given : Prepared) (promise : PreparedAs page file transfer cheque out notes given out' notes')
       (z : given .number ≡ 0) where
-    pub success : (verdictOf page file transfer cheque .number ≡ 0) × (given .notes ≡ length (notesOf page file))
+    -- the page exists, the file is sound, and the answer tells how many notes there are
+    abbrev Success : Type 0
+    Success = (isPage page ≡ true) × (verdictOf page file transfer cheque .number ≡ 0) × (given .notes ≡ length (notesOf page file))
+
+    pub success : Success
     unfolding prepareOf sendOf
-    success = go (eqb (verdictOf page file transfer cheque .number) 0) (ltb (length out) (length file)) (ltb (length notes) (length (notesOf page file))) refl (promise .answer-is)
+    success = go (isPage page) (eqb (verdictOf page file transfer cheque .number) 0) (ltb (length out) (length file)) (ltb (length notes) (length (notesOf page file))) refl refl (promise .answer-is)
       where
         number-is : {r : Prepared} → given ≡ r → r .number ≡ 0
         number-is e = sym (ap (λ (r : Prepared). r .number) e) ∙ z
 
-        go : (sound short few : Bool) → eqb (verdictOf page file transfer cheque .number) 0 ≡ sound
-            → given ≡ cond sound (cond short (notPrepared 60 0) (cond few (notPrepared 61 0) (done (length (notesOf page file))))) (notPrepared (verdictOf page file transfer cheque .number) (verdictOf page file transfer cheque .rec))
-            → (verdictOf page file transfer cheque .number ≡ 0) × (given .notes ≡ length (notesOf page file))
-        go true false false p e = (eqb-true _ _ p, ap (λ (r : Prepared). r .notes) e)
-        go true false true p e = absurd (omega (arith, number-is e))
-        go true true few p e = absurd (omega (arith, number-is e))
-        go false short few p e = absurd (eqb-false _ _ p (number-is e))
+        go : (there sound short few : Bool) → isPage page ≡ there → eqb (verdictOf page file transfer cheque .number) 0 ≡ sound
+            → given ≡ cond there (cond sound (cond short (notPrepared 60 0) (cond few (notPrepared 61 0) (done (length (notesOf page file))))) (notPrepared (verdictOf page file transfer cheque .number) (verdictOf page file transfer cheque .rec))) (notPrepared 7 0)
+            → Success
+        go true true false false t p e = (t, eqb-true _ _ p, ap (λ (r : Prepared). r .notes) e)
+        go true true false true t p e = absurd (omega (arith, number-is e))
+        go true true true few t p e = absurd (omega (arith, number-is e))
+        go true false short few t p e = absurd (eqb-false _ _ p (number-is e))
+        go false sound short few t p e = absurd (omega (arith, number-is e))
 
     pub prepared-origin : Bytes file → SoundOrigin page transfer cheque file (take (length file) out') (take (given .notes) notes')
     prepared-origin h =
         record {
           bytes = h;
-          sound = success .0;
+          sound = success .1;
           forwards =
               sym (ap (take (length file)) (promise .out-is ∙ sym (on-eq _ z refl))
               ∙ take-at (forwarded page file) (drop (0 + length (forwarded page file)) out) (length file) (forwarded-length page file));
           notes-are =
               sym (ap (take (given .notes)) (promise .notes-are ∙ sym (on-eq _ z refl))
-              ∙ take-at (notesOf page file) (drop (0 + length (notesOf page file)) notes) (given .notes) (sym (success .1)));
+              ∙ take-at (notesOf page file) (drop (0 + length (notesOf page file)) notes) (given .notes) (sym (success .2)));
         }
 
   -- and restores to it
@@ -128,5 +134,6 @@ module _ (page : ℕ) (transfer cheque : List ℕ) where
       → length file ≤ length room → (restored ≡ answer 0) × (room' ≡ put 0 file room)
   comes-back file out notes out' notes' room room' prepared restored h z p q l =
       let o = prepared-origin file out notes out' notes' prepared p z h in
-      gives-back (take (length file) out') (take (prepared .notes) notes') room room' restored q file o
+      let there = success file out notes out' notes' prepared p z .0 in
+      gives-back (take (length file) out') (take (prepared .notes) notes') room room' restored q there file o
       (rw (sym (ap length (o .forwards)) ∙ forwarded-length page file) l)

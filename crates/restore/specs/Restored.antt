@@ -1,11 +1,13 @@
 -- Document 01, "What each call answers" (RULES 9.5): "Restore: 60 first, then 70, record 0 for both. If 0, the output
--- begins with the original, the rest of it keeps its bytes, and the record is 0. All lent notes count."
+-- begins with the original, the rest of it keeps its bytes, and the record is 0. All lent notes count." On the code page
+-- that the caller names (document 02, A2).
 use Prim.Native.Nat.{ℕ}
 use mathlib.Core.Path.{_≡_}
 use mathlib.Core.Bool.{Bool, _&&_, cond}
 use mathlib.Core.List.{List}
 use lib.Dec.{eqb, ltb}
 use lib.ListN.{length}
+use Rattle.charset.specs.Table.{isPage}
 use Rattle.judge.specs.Verdict.{verdictOf}
 use Rattle.forwarding.specs.Merge.{originalOf, isPair}
 use Rattle.forwarding.specs.Put.{put}
@@ -20,10 +22,15 @@ isYielded page forwarded notes transfer cheque =
     eqb (verdictOf page forwarded transfer cheque .number) 0 && isPair page forwarded notes
 
 -- "60 first, then 70, record 0 for both"; 60 is "output room shorter than the file"
-unfoldable pub restoreOf : ℕ → List ℕ → List ℕ → List ℕ → List ℕ → ℕ → Restored
-restoreOf page forwarded notes transfer cheque room =
+abbrev pub restoreBy : ℕ → List ℕ → List ℕ → List ℕ → List ℕ → ℕ → Restored
+restoreBy page forwarded notes transfer cheque room =
     cond (ltb room (length forwarded)) (answer 60)
     (cond (isYielded page forwarded notes transfer cheque) (answer 0) (answer 70))
+
+-- Document 02, A2: "any other page number is 7, record and offset 0, before every other number" (RULES 8)
+unfoldable pub restoreOf : ℕ → List ℕ → List ℕ → List ℕ → List ℕ → ℕ → Restored
+restoreOf page forwarded notes transfer cheque room =
+    cond (isPage page) (restoreBy page forwarded notes transfer cheque room) (answer 7)
 
 -- "If 0, the output begins with the original, the rest of it keeps its bytes"; else it keeps them all
 abbrev pub restoredInto : Restored → List ℕ → List ℕ → List ℕ → List ℕ

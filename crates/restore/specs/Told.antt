@@ -1,15 +1,15 @@
--- The answer and the output by what the call found: the room, the verdict, what is left to replace, and the notes.
+-- The answer and the output by what the call found: the page, the room, the verdict, what is left to replace, and the notes.
 use Prim.Native.Nat.{ℕ, _+_, _≤_, _<_}
 use mathlib.Core.Path.{_≡_, refl, sym, ap, _∙_}
-use mathlib.Core.Bool.{Bool, true, false, _&&_}
+use mathlib.Core.Bool.{Bool, true, false, not, _&&_}
 use mathlib.Core.List.{List, [], _++_}
 use native.Mathlib.Omega.{arith}
 use borrow.Author.Tests.{eq-eqb, ne-eqb}
 use lib.Dec.{eqb}
 use lib.ListN.{length, take, drop, length-append}
 use lib.Seq.{take-length}
-use Rattle.laws.specs.Choice.{on, off, off-eq, on-lt, off-lt, both}
-use Rattle.charset.specs.Table.{rep, rep-rep}
+use Rattle.laws.specs.Choice.{on, off, off-eq, on-lt, off-lt, on-not, off-not, both}
+use Rattle.charset.specs.Table.{isPage, rep, rep-rep}
 use Rattle.judge.specs.Verdict.{verdictOf}
 use Rattle.judge.specs.declared.Verdict.{Verdict}
 use Rattle.forwarding.specs.Text.{textAt}
@@ -18,7 +18,8 @@ use Rattle.forwarding.specs.Merge.{originalOf, isPair}
 use Rattle.forwarding.specs.Put.{put}
 use Rattle.forwarding.specs.RoundTrip.{pair-alone}
 use Rattle.restore.specs.ByNotes.{notesFit, putNotes, inFile, accepts-by-notes, merged-by-notes, notes-inside, inside-more, notes-in-front, notes-length}
-use Rattle.restore.specs.Restored.{answer, isYielded, restoreOf, RestoredAs}
+use Rattle.restore.specs.Restored.{answer, isYielded, restoreBy, restoreOf, RestoredAs}
+use Rattle.restore.specs.declared.Restored.{Restored}
 
 -- whether a sound file yields the pair: v is the verdict, n how many characters are left to replace, fit whether
 -- the notes fit
@@ -64,29 +65,35 @@ module _ (page : ℕ) (g ns transfer cheque : List ℕ) where
     unfolding originalOf
     original-is = sym (merged-by-notes (rep page) (textAt (length g)) g ns notes-fit)
 
--- the answer
-module _ (page : ℕ) (g ns transfer cheque out : List ℕ) where
+-- the answer: there is whether the page exists
+module _ (page : ℕ) (g ns transfer cheque out : List ℕ) {there : Bool} (known : there ≡ isPage page) where
   keeps : (n : ℕ) → (n ≡ 0 → ⊥) → answer n ≡ restoreOf page g ns transfer cheque (length out)
       → RestoredAs page g ns transfer cheque out (answer n) out
   keeps n z e = record { answer-is = e; out-is = off-eq _ z refl }
 
-  pub too-short : length out < length g → RestoredAs page g ns transfer cheque out (answer 60) out
+  pub no-page : not there ≡ true → RestoredAs page g ns transfer cheque out (answer 7) out
   unfolding restoreOf
-  too-short h = keeps 60 (λ z. omega arith) (on-lt _ h refl)
+  no-page n = keeps 7 (λ z. omega arith) (off-not _ known n refl)
 
-  module _ (room : length g ≤ length out) {t : Bool} (e : t ≡ isYielded page g ns transfer cheque) where
-    pub refuses : t ≡ false → RestoredAs page g ns transfer cheque out (answer 70) out
+  module _ (named : not there ≡ false) where
+    on-page : {r : Restored} → r ≡ restoreBy page g ns transfer cheque (length out) → r ≡ restoreOf page g ns transfer cheque (length out)
     unfolding restoreOf
-    refuses y = keeps 70 (λ z. omega arith) (off-lt _ room (off _ (sym e ∙ y) refl))
+    on-page h = on-not (answer 7) known named h
 
-    pub restores : {out' : List ℕ} → t ≡ true → out' ≡ put 0 (putNotes g ns) out → RestoredAs page g ns transfer cheque out (answer 0) out'
-    unfolding restoreOf
-    restores y h =
-        let yes = sym e ∙ y in
-        record {
-          answer-is = off-lt (answer 60) room (on (answer 70) yes refl);
-          out-is = h ∙ ap (λ (s : List ℕ). put 0 s out) (original-is page g ns transfer cheque yes);
-        }
+    pub too-short : length out < length g → RestoredAs page g ns transfer cheque out (answer 60) out
+    too-short h = keeps 60 (λ z. omega arith) (on-page (on-lt _ h refl))
+
+    module _ (room : length g ≤ length out) {t : Bool} (e : t ≡ isYielded page g ns transfer cheque) where
+      pub refuses : t ≡ false → RestoredAs page g ns transfer cheque out (answer 70) out
+      refuses y = keeps 70 (λ z. omega arith) (on-page (off-lt _ room (off _ (sym e ∙ y) refl)))
+
+      pub restores : {out' : List ℕ} → t ≡ true → out' ≡ put 0 (putNotes g ns) out → RestoredAs page g ns transfer cheque out (answer 0) out'
+      restores y h =
+          let yes = sym e ∙ y in
+          record {
+            answer-is = on-page (off-lt (answer 60) room (on (answer 70) yes refl));
+            out-is = h ∙ ap (λ (s : List ℕ). put 0 s out) (original-is page g ns transfer cheque yes);
+          }
 
 -- what is written: the file is copied, and the notes are put back
 module _ (g ns out : List ℕ) (inside-file : inFile (length g) ns ≡ true) {copied : List ℕ}

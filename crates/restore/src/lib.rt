@@ -12,7 +12,7 @@ ghost use Rattle.forwarding.specs.Put.{put};
 ghost use Rattle.restore.specs.ByNotes.{noteFits, notesFit, inFile, putNotes};
 ghost use Rattle.restore.specs.Restored.{isYielded, RestoredAs};
 
-// Number 0: restored. Else 60 or 70. The record is always 0.
+// Number 0: restored. Else 7, 60 or 70. The record is always 0.
 #[repr(C)]
 pub struct Restored {
     pub number: usize,
@@ -123,8 +123,9 @@ fn write(forwarded: &[u8], notes: &[u32], out: &mut [u8])
     put_back(notes, out);
 }
 
-// On a code page. Nothing is written before everything is checked.
-fn on_page(
+// A page that does not exist is 7, before anything is read; then 60, then 70. Nothing is written before everything is
+// checked.
+pub fn restore(
     page: u32,
     forwarded: &[u8],
     notes: &[u32],
@@ -134,6 +135,9 @@ fn on_page(
 ) -> Restored
     ensures { λ r. ⌜ RestoredAs page (now (forwarded .entry)) (now (notes .entry)) (now (transfer .entry)) (now (cheque .entry)) (now (out .entry)) r (now (out .exit)) ⌝ }
 {
+    if !charset::is_page(page) {
+        return Restored { number: 7, rec: 0 };
+    }
     if out.len() < forwarded.len() {
         return Restored { number: 60, rec: 0 };
     }
@@ -142,17 +146,4 @@ fn on_page(
         return Restored { number: 0, rec: 0 };
     }
     Restored { number: 70, rec: 0 }
-}
-
-// The restore of document 01: on page 0.
-pub fn restore(
-    forwarded: &[u8],
-    notes: &[u32],
-    transfer: &[u8],
-    cheque: &[u8],
-    out: &mut [u8],
-) -> Restored
-    ensures { λ r. ⌜ RestoredAs 0 (now (forwarded .entry)) (now (notes .entry)) (now (transfer .entry)) (now (cheque .entry)) (now (out .entry)) r (now (out .exit)) ⌝ }
-{
-    on_page(0, forwarded, notes, transfer, cheque, out)
 }

@@ -7,7 +7,7 @@ use Rattle.host.proofs.desk_judge.Statement.{statement}
 use Rattle.host.proofs.desk_judge.Tie as tie
 
 small : (c : tie.After-judge) → Small (c .judge .result)
-small c = subst Small (sym (c .judge .ensures)) (judge-small _ _ _ _)
+small c = subst Small (sym (c .judge .ensures)) (judge-small _ _ _ _ _)
 
 pub desk-judge-spec : {M : Type 1} → statement M
 desk-judge-spec =
