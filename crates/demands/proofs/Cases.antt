@@ -1,4 +1,4 @@
--- The twelve (P) cases hold, by computing the table; and what is found of the samples that shut a program out.
+-- The twelve (P) cases hold, by computing the table; and what is found, on each page, of the samples that shut a program out.
 use Prim.Native.Nat.{ℕ}
 use mathlib.Core.Path.{_≡_, refl}
 use mathlib.Core.Bool.{Bool, true}
@@ -19,6 +19,7 @@ use Rattle.payments.specs.Rules.{isTransfer, isCheque, isCountry, isTwoCapitals
 use Rattle.payments.specs.Faults.{tRules, tFault}
 use Rattle.structure.specs.Slots.{slotAt}
 use Rattle.structure.specs.Walk.{faultIn, structureOf}
+use Rattle.structure.specs.declared.Shape.{Shape}
 use Rattle.structure.specs.declared.Shape.the-variants.{Fits}
 use Rattle.judge.specs.Content.{faultOf, contentOf}
 use Rattle.judge.specs.Sums.{euroSum, centSum, fileNumber}
@@ -40,34 +41,49 @@ blanked = two "=" "000000000000199"
 abbrev pub quiet : List (ℕ × ℕ) → Bool
 quiet rows = every (λ (row : ℕ × ℕ). eqb (row .1) 0) rows
 
--- what is found of the empty file, of that one and of this
-pub record Samples : Type 0 where
-  pub empty-refused : verdictOf 0 [] transfer cheque .number ≡ 2
-  pub noted-sound : verdictOf 0 noted transfer cheque .number ≡ 0
-  pub noted-bytes : every (λ (b : ℕ). ltb b 256) noted ≡ true
-  pub one-note : notesOf 0 noted ≡ 316198 ∷ []
-  pub blanked-fits : structureOf blanked ≡ Fits 2
-  pub blanked-refused : verdictOf 0 blanked transfer cheque .number ≡ 29
-  pub q-quiet : quiet (qRules 0 (slotAt blanked 0)) ≡ true
-  pub t-quiet : quiet (tRules 0 transfer cheque (keyOf (slotAt blanked 1)) (slotAt blanked 1)) ≡ true
-  pub z-quiet : quiet (zRules 2 (euroSum blanked 2) (slotAt blanked 3)) ≡ true
+-- what is found on a page of the empty file, of that one and of this
+pub record Found : Type 0 where
+  pub of-empty : ℕ
+  pub of-noted : ℕ
+  pub noted-bytes : Bool
+  pub noted-notes : List ℕ
+  pub of-blanked : ℕ
+  pub blanked-shape : Shape
+  pub q-quiet : Bool
+  pub t-quiet : Bool
+  pub z-quiet : Bool
 
-pub cases-hold : Cases × Samples
+abbrev pub found : ℕ → Found
+found page =
+    record {
+      of-empty = verdictOf page [] transfer cheque .number;
+      of-noted = verdictOf page noted transfer cheque .number;
+      noted-bytes = every (λ (b : ℕ). ltb b 256) noted;
+      noted-notes = notesOf page noted;
+      of-blanked = verdictOf page blanked transfer cheque .number;
+      blanked-shape = structureOf blanked;
+      q-quiet = quiet (qRules page (slotAt blanked 0));
+      t-quiet = quiet (tRules page transfer cheque (keyOf (slotAt blanked 1)) (slotAt blanked 1));
+      z-quiet = quiet (zRules 2 (euroSum blanked 2) (slotAt blanked 3));
+    }
+
+abbrev pub due : Found
+due =
+    record {
+      of-empty = 2;
+      of-noted = 0;
+      noted-bytes = true;
+      noted-notes = 316198 ∷ [];
+      of-blanked = 29;
+      blanked-shape = Fits 2;
+      q-quiet = true;
+      t-quiet = true;
+      z-quiet = true;
+    }
+
+pub cases-hold : Cases × (found 0 ≡ due) × (found 1 ≡ due)
 unfolding
     from run rep part allOf blank same dec isDate bicShape isListed isTaken lineBlank rule10 rule11 rule12 rule13 rule14 rule15 rule16 rule40 rule41 rule42
     qFault zFault isTransfer isCheque isCountry isTwoCapitals hasBic rule20 rule21 rule22 rule23 rule24 rule25 rule26 rule27 rule28 rule29 rule30 rule31 rule32
     rule33 rule34 rule35 tFault slotAt faultIn structureOf faultOf contentOf euroSum centSum fileNumber verdictOf judgeOf textual textAt notesOf
-cases-hold = (
-  tt,
-  record {
-    empty-refused = refl;
-    noted-sound = refl;
-    noted-bytes = refl;
-    one-note = refl;
-    blanked-fits = refl;
-    blanked-refused = refl;
-    q-quiet = refl;
-    t-quiet = refl;
-    z-quiet = refl;
-  },
-)
+cases-hold = (tt, refl, refl)

@@ -98,18 +98,18 @@ behind xs ys n e =
     drop-at xs (drop (0 + length xs) ys) n e ∙ ap (λ (m : ℕ). drop m ys) z
 
 pub forwards : Forwards
-forwards file transfer cheque out notes out' notes' answer bytes promise z =
-    let o = prepared-origin 0 transfer cheque file out notes out' notes' answer promise z bytes in
-    let count : length (notesOf 0 file) ≡ answer .notes = sym (success 0 transfer cheque file out notes out' notes' answer promise z .1) in
+forwards page file transfer cheque out notes out' notes' answer bytes promise z =
+    let o = prepared-origin page transfer cheque file out notes out' notes' answer promise z bytes in
+    let count : length (notesOf page file) ≡ answer .notes = sym (success page transfer cheque file out notes out' notes' answer promise z .2) in
     record {
-      sound = judged 0 transfer cheque file .sound .0 (o .sound);
-      output = subst (Replaced 0 file) (o .forwards) (replaced 0 file);
+      sound = judged page transfer cheque file .sound .0 (o .sound);
+      output = subst (Replaced page file) (o .forwards) (replaced page file);
       output-rest =
-          ap (drop (length file)) (promise .out-is ∙ sym (on-eq _ z refl)) ∙ behind (forwarded 0 file) out (length file) (forwarded-length 0 file);
+          ap (drop (length file)) (promise .out-is ∙ sym (on-eq _ z refl)) ∙ behind (forwarded page file) out (length file) (forwarded-length page file);
       counted =
           omega
-          (arith, count, ap length (promise .notes-are ∙ sym (on-eq _ z refl)), length-append (notesOf 0 file) (drop (0 + length (notesOf 0 file)) notes));
-      noted = subst (Listed 0 file) (o .notes-are) (listed 0 file bytes);
+          (arith, count, ap length (promise .notes-are ∙ sym (on-eq _ z refl)), length-append (notesOf page file) (drop (0 + length (notesOf page file)) notes));
+      noted = subst (Listed page file) (o .notes-are) (listed page file bytes);
       notes-rest =
-          ap (drop (answer .notes)) (promise .notes-are ∙ sym (on-eq _ z refl)) ∙ behind (notesOf 0 file) notes (answer .notes) count;
+          ap (drop (answer .notes)) (promise .notes-are ∙ sym (on-eq _ z refl)) ∙ behind (notesOf page file) notes (answer .notes) count;
     }

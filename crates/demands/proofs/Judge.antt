@@ -19,11 +19,12 @@ use Rattle.judge.specs.Records.{fileOf, sumOf}
 use Rattle.judge.specs.ByRecords.{sum-by-records, cents-by-records}
 use Rattle.judge.specs.Apart.{slotsFrom, slots-count, made}
 use Rattle.judge.specs.Content.{contentOf}
-use Rattle.judge.specs.Verdict.{refused, sound, unless, verdictBy, verdictOf, judgeOf}
+use Rattle.judge.specs.Verdict.{refused, sound, unless, verdictBy, verdictOf, orTaken, judgeOf}
 use Rattle.judge.specs.Told.{told-fits, sound-fits}
 use Rattle.judge.specs.declared.Breach.{Breach}
 use Rattle.judge.specs.declared.Verdict.{Verdict}
 use Rattle.demands.specs.Demand2.{Answered, Counted, Zeros, Judges, JudgeAnswers}
+use Rattle.demands.proofs.Pages.{on-page}
 use Rattle.demands.proofs.Demand2.{judged}
 
 -- by what the rules found, fault: the answer of a sound file, or a refusal
@@ -43,23 +44,23 @@ module _ (fault : Breach) (v : Verdict) where
       go true n = absurd (n z)
       go false n = (refl, refl, refl)
 
-module _ (file transfer cheque : List ℕ) where
-  pub refused-zeros : (verdictOf 0 file transfer cheque .number ≡ 0 → ⊥) → Zeros (verdictOf 0 file transfer cheque)
+module _ (page : ℕ) (file transfer cheque : List ℕ) where
+  pub refused-zeros : (verdictOf page file transfer cheque .number ≡ 0 → ⊥) → Zeros (verdictOf page file transfer cheque)
   unfolding verdictOf
   refused-zeros = go (structureOf file)
     where
-      go : (s : Shape) → (verdictBy s 0 file transfer cheque .number ≡ 0 → ⊥) → Zeros (verdictBy s 0 file transfer cheque)
+      go : (s : Shape) → (verdictBy s page file transfer cheque .number ≡ 0 → ⊥) → Zeros (verdictBy s page file transfer cheque)
       go (Refused number rec) n = (refl, refl, refl)
       go (Fits m) n =
-          unless-zeros (contentOf 0 file m (euroSum file m) transfer cheque) (sound m (euroSum file m) (centSum file m)) refl n
+          unless-zeros (contentOf page file m (euroSum file m) transfer cheque) (sound m (euroSum file m) (centSum file m)) refl n
 
   -- a sound file of n payments
-  module _ (z : verdictOf 0 file transfer cheque .number ≡ 0) (n : ℕ) (e : structureOf file ≡ Fits n) (fit : Fit file n) where
-    v-is : verdictOf 0 file transfer cheque ≡ sound n (euroSum file n) (centSum file n)
+  module _ (z : verdictOf page file transfer cheque .number ≡ 0) (n : ℕ) (e : structureOf file ≡ Fits n) (fit : Fit file n) where
+    v-is : verdictOf page file transfer cheque ≡ sound n (euroSum file n) (centSum file n)
     v-is =
-        let told = told-fits 0 file transfer cheque n e in
+        let told = told-fits page file transfer cheque n e in
         sym told
-        ∙ unless-sound (contentOf 0 file n (euroSum file n) transfer cheque) (sound n (euroSum file n) (centSum file n)) refl
+        ∙ unless-sound (contentOf page file n (euroSum file n) transfer cheque) (sound n (euroSum file n) (centSum file n)) refl
         (ap (λ (v : Verdict). v .number) told ∙ z)
 
     -- a sum over the file's records is one over the T records that make it up
@@ -68,7 +69,7 @@ module _ (file transfer cheque : List ℕ) where
         → total file n ≡ sumOf f (slotsFrom file 1 n)
     by-records total f q = ap₂ total (made file n fit .1) (sym (slots-count file 1 n)) ∙ q
 
-    counted : Counted file (verdictOf 0 file transfer cheque)
+    counted : Counted file (verdictOf page file transfer cheque)
     counted =
         let lengths = made file n fit .0 in
         record {
@@ -81,24 +82,24 @@ module _ (file transfer cheque : List ℕ) where
           cents-are = ap (λ (v : Verdict). v .cents) v-is ∙ by-records centSum cents (cents-by-records _ _ _ lengths);
         }
 
-  sound-told : verdictOf 0 file transfer cheque .number ≡ 0
-      → (verdictOf 0 file transfer cheque .rec ≡ 0) × Counted file (verdictOf 0 file transfer cheque)
+  sound-told : verdictOf page file transfer cheque .number ≡ 0
+      → (verdictOf page file transfer cheque .rec ≡ 0) × Counted file (verdictOf page file transfer cheque)
   sound-told z =
-      let f = sound-fits 0 file transfer cheque z in
+      let f = sound-fits page file transfer cheque z in
       (ap (λ (v : Verdict). v .rec) (v-is z (f .0) (f .1) (f .2)), counted z (f .0) (f .1) (f .2))
 
-judges : (file transfer cheque taken : List ℕ) → Judges transfer cheque taken file (judgeOf file transfer cheque taken)
-unfolding judgeOf
-judges file transfer cheque taken = go (eqb (v .number) 0) (isTaken taken (fileNumber (slotAt file 0))) refl refl
+judges : (page : ℕ) (file transfer cheque taken : List ℕ)
+    → Judges page transfer cheque taken file (orTaken (verdictOf page file transfer cheque) file taken)
+judges page file transfer cheque taken = go (eqb (v .number) 0) (isTaken taken (fileNumber (slotAt file 0))) refl refl
   where
     v : Verdict
-    v = verdictOf 0 file transfer cheque
+    v = verdictOf page file transfer cheque
 
-    a : Answered 0 transfer cheque file (verdictOf 0 file transfer cheque .number) (verdictOf 0 file transfer cheque .rec) (verdictOf 0 file transfer cheque .at)
-    a = judged 0 transfer cheque file
+    a : Answered page transfer cheque file (verdictOf page file transfer cheque .number) (verdictOf page file transfer cheque .rec) (verdictOf page file transfer cheque .at)
+    a = judged page transfer cheque file
 
-    go : (zero used : Bool) → eqb (verdictOf 0 file transfer cheque .number) 0 ≡ zero → isTaken taken (fileNumber (slotAt file 0)) ≡ used
-        → Judges transfer cheque taken file (cond zero (cond used (refused 50 0 0) (verdictOf 0 file transfer cheque)) (verdictOf 0 file transfer cheque))
+    go : (zero used : Bool) → eqb (verdictOf page file transfer cheque .number) 0 ≡ zero → isTaken taken (fileNumber (slotAt file 0)) ≡ used
+        → Judges page transfer cheque taken file (cond zero (cond used (refused 50 0 0) (verdictOf page file transfer cheque)) (verdictOf page file transfer cheque))
     go true true e t =
         record {
           free = λ s f. absurd (false≢true (sym f ∙ t));
@@ -107,7 +108,7 @@ judges file transfer cheque taken = go (eqb (v .number) 0) (isTaken taken (fileN
         }
     go true false e t =
         let z = eqb-true _ _ e in
-        let told = sound-told file transfer cheque z in
+        let told = sound-told page file transfer cheque z in
         record {
           free = λ s f. (z, told .0, a .place .nowhere (omega (arith, z)), told .1);
           used = λ s u. absurd (false≢true (sym t ∙ u));
@@ -118,9 +119,12 @@ judges file transfer cheque taken = go (eqb (v .number) 0) (isTaken taken (fileN
         record {
           free = λ s f. absurd (ne (a .sound .1 s));
           used = λ s u. absurd (ne (a .sound .1 s));
-          unsound = λ n. (a .first ne, a .place, refused-zeros file transfer cheque ne);
+          unsound = λ n. (a .first ne, a .place, refused-zeros page file transfer cheque ne);
         }
 
 pub judge-answers : JudgeAnswers
-judge-answers file transfer cheque taken answer promise =
-    subst (Judges transfer cheque taken file) (sym promise) (judges file transfer cheque taken)
+unfolding judgeOf
+judge-answers page file transfer cheque taken answer there promise =
+    let found = orTaken (verdictOf page file transfer cheque) file taken in
+    subst (Judges page transfer cheque taken file) (sym (on-page page (λ (v : Verdict). v .number) found (refused 7 0 0) answer promise there))
+    (judges page file transfer cheque taken)

@@ -1,4 +1,5 @@
 pub mod Cases
+pub mod Pages
 pub mod Alone
 pub mod Ranges
 pub mod Turns

@@ -9,14 +9,16 @@ use borrow.Author.Tests.{eqb-true, eqb-false, ltb-true, ltb-false}
 use lib.Dec.{eqb, ltb}
 use lib.ListN.{length}
 use Rattle.laws.specs.Choice.{off-eq}
-use Rattle.judge.specs.Verdict.{verdictOf, judgeOf}
+use Rattle.charset.specs.Table.{isPage}
+use Rattle.judge.specs.Verdict.{refused, verdictOf, orTaken, judgeOf}
 use Rattle.judge.specs.declared.Verdict.{Verdict}
 use Rattle.forwarding.specs.Forwarded.{notesOf}
-use Rattle.prepare.specs.Prepared.{notPrepared, done, sendOf, prepareOf}
+use Rattle.prepare.specs.Prepared.{notPrepared, done, sendOf, prepareBy, prepareOf}
 use Rattle.prepare.specs.declared.Prepared.{Prepared}
 use Rattle.demands.specs.Demand1.{FileRule}
 use Rattle.demands.specs.Demand2.{Answered}
 use Rattle.demands.specs.Forwarding.{Exactly, PrepareExactly, PrepareAsJudged}
+use Rattle.demands.proofs.Pages.{on-page}
 use Rattle.demands.proofs.Demand1.{told}
 use Rattle.demands.proofs.Demand2.{judged}
 use Rattle.demands.proofs.Forwarding.{listed, listed-one}
@@ -32,20 +34,20 @@ told-below : (n : ℕ) → (n ≡ 0 → ⊥) → (n ≡ 0) ⊎ FileRule n → n 
 told-below n f (inl z) = absurd (f z)
 told-below n f (inr r) = rule-below n r
 
-module _ (file transfer cheque out notes : List ℕ) where
-  exactly : Exactly 0 file transfer cheque out notes (notesOf 0 file) (prepareOf 0 file transfer cheque out notes)
-  unfolding prepareOf sendOf
+module _ (page : ℕ) (file transfer cheque out notes : List ℕ) where
+  exactly : Exactly page file transfer cheque out notes (notesOf page file) (prepareBy (verdictOf page file transfer cheque) page file out notes)
+  unfolding sendOf
   exactly =
-      go (eqb (verdictOf 0 file transfer cheque .number) 0) (ltb (length out) (length file)) (ltb (length notes) (length (notesOf 0 file))) refl refl refl
+      go (eqb (verdictOf page file transfer cheque .number) 0) (ltb (length out) (length file)) (ltb (length notes) (length (notesOf page file))) refl refl refl
     where
-      a : Answered 0 transfer cheque file (verdictOf 0 file transfer cheque .number) (verdictOf 0 file transfer cheque .rec) (verdictOf 0 file transfer cheque .at)
-      a = judged 0 transfer cheque file
+      a : Answered page transfer cheque file (verdictOf page file transfer cheque .number) (verdictOf page file transfer cheque .rec) (verdictOf page file transfer cheque .at)
+      a = judged page transfer cheque file
 
-      go : (sound short few : Bool) → eqb (verdictOf 0 file transfer cheque .number) 0 ≡ sound → ltb (length out) (length file) ≡ short
-          → ltb (length notes) (length (notesOf 0 file)) ≡ few
-          → Exactly 0 file transfer cheque out notes (notesOf 0 file)
-          (cond sound (cond short (notPrepared 60 0) (cond few (notPrepared 61 0) (done (length (notesOf 0 file)))))
-          (notPrepared (verdictOf 0 file transfer cheque .number) (verdictOf 0 file transfer cheque .rec)))
+      go : (sound short few : Bool) → eqb (verdictOf page file transfer cheque .number) 0 ≡ sound → ltb (length out) (length file) ≡ short
+          → ltb (length notes) (length (notesOf page file)) ≡ few
+          → Exactly page file transfer cheque out notes (notesOf page file)
+          (cond sound (cond short (notPrepared 60 0) (cond few (notPrepared 61 0) (done (length (notesOf page file)))))
+          (notPrepared (verdictOf page file transfer cheque .number) (verdictOf page file transfer cheque .rec)))
       go true true few p q r =
           let s = a .sound .0 (eqb-true _ _ p) in
           let l = ltb-true (length out) (length file) q in
@@ -60,7 +62,7 @@ module _ (file transfer cheque out notes : List ℕ) where
       go true false true p q r =
           let s = a .sound .0 (eqb-true _ _ p) in
           let l = ltb-false (length out) (length file) q in
-          let m = ltb-true (length notes) (length (notesOf 0 file)) r in
+          let m = ltb-true (length notes) (length (notesOf page file)) r in
           record {
             done = (λ z. absurd (omega (arith, z)), λ w. absurd (omega (arith, w .2, m)));
             no-room = (λ z. absurd (omega (arith, z)), λ w. absurd (omega (arith, w .1, l)));
@@ -72,7 +74,7 @@ module _ (file transfer cheque out notes : List ℕ) where
       go true false false p q r =
           let s = a .sound .0 (eqb-true _ _ p) in
           let l = ltb-false (length out) (length file) q in
-          let m = ltb-false (length notes) (length (notesOf 0 file)) r in
+          let m = ltb-false (length notes) (length (notesOf page file)) r in
           record {
             done = (λ z. (s, l, m), λ w. refl);
             no-room = (λ z. absurd (omega (arith, z)), λ w. absurd (omega (arith, w .1, l)));
@@ -83,7 +85,7 @@ module _ (file transfer cheque out notes : List ℕ) where
           }
       go false short few p q r =
           let ne = eqb-false _ _ p in
-          let below = told-below _ ne (told file transfer cheque) in
+          let below = told-below _ ne (told page file transfer cheque) in
           record {
             done = (λ z. absurd (ne z), λ w. absurd (ne (a .sound .1 (w .0))));
             no-room = (λ z. absurd (omega (arith, z, below)), λ w. absurd (ne (a .sound .1 (w .0))));
@@ -93,22 +95,37 @@ module _ (file transfer cheque out notes : List ℕ) where
             none-noted = λ z. refl;
           }
 
-  -- prepare and the judge of an unsound file
-  refused-alike : (taken : List ℕ) → (verdictOf 0 file transfer cheque .number ≡ 0 → ⊥)
-      → (prepareOf 0 file transfer cheque out notes .number ≡ judgeOf file transfer cheque taken .number)
-      × (prepareOf 0 file transfer cheque out notes .rec ≡ judgeOf file transfer cheque taken .rec)
+  -- prepare and the judge of an unsound file, and on a page that does not exist
+  refused-alike : (taken : List ℕ) → (verdictOf page file transfer cheque .number ≡ 0 → ⊥)
+      → (prepareOf page file transfer cheque out notes .number ≡ judgeOf page file transfer cheque taken .number)
+      × (prepareOf page file transfer cheque out notes .rec ≡ judgeOf page file transfer cheque taken .rec)
   unfolding prepareOf judgeOf
-  refused-alike taken ne =
-      let v = verdictOf 0 file transfer cheque in
-      let p : notPrepared (v .number) (v .rec) ≡ prepareOf 0 file transfer cheque out notes = off-eq _ ne refl in
-      let j : v ≡ judgeOf file transfer cheque taken = off-eq _ ne refl in
-      (sym (ap (λ (r : Prepared). r .number) p) ∙ ap (λ (r : Verdict). r .number) j, sym (ap (λ (r : Prepared). r .rec) p) ∙ ap (λ (r : Verdict). r .rec) j)
+  refused-alike taken ne = go (isPage page)
+    where
+      p : notPrepared (verdictOf page file transfer cheque .number) (verdictOf page file transfer cheque .rec)
+          ≡ prepareBy (verdictOf page file transfer cheque) page file out notes
+      p = off-eq _ ne refl
+
+      j : verdictOf page file transfer cheque ≡ orTaken (verdictOf page file transfer cheque) file taken
+      j = off-eq _ ne refl
+
+      go : (there : Bool)
+          → (cond there (prepareBy (verdictOf page file transfer cheque) page file out notes) (notPrepared 7 0) .number
+          ≡ cond there (orTaken (verdictOf page file transfer cheque) file taken) (refused 7 0 0) .number)
+          × (cond there (prepareBy (verdictOf page file transfer cheque) page file out notes) (notPrepared 7 0) .rec
+          ≡ cond there (orTaken (verdictOf page file transfer cheque) file taken) (refused 7 0 0) .rec)
+      go true =
+          (sym (ap (λ (r : Prepared). r .number) p) ∙ ap (λ (r : Verdict). r .number) j, sym (ap (λ (r : Prepared). r .rec) p) ∙ ap (λ (r : Verdict). r .rec) j)
+      go false = (refl, refl)
 
 pub prepare-exactly : PrepareExactly
-prepare-exactly file transfer cheque out notes out' notes' changes answer bytes list promise =
-    rw (promise .answer-is, listed-one 0 file changes (notesOf 0 file) list (listed 0 file bytes)) (exactly file transfer cheque out notes)
+unfolding prepareOf
+prepare-exactly page file transfer cheque out notes out' notes' changes answer there bytes list promise =
+    let by = prepareBy (verdictOf page file transfer cheque) page file out notes in
+    rw (on-page page (λ (r : Prepared). r .number) by (notPrepared 7 0) answer (promise .answer-is) there, listed-one page file changes (notesOf page file) list (listed page file bytes))
+    (exactly page file transfer cheque out notes)
 
 pub prepare-as-judged : PrepareAsJudged
-prepare-as-judged file transfer cheque taken out notes out' notes' answer verdict promise given unsound =
+prepare-as-judged page file transfer cheque taken out notes out' notes' answer verdict promise given unsound =
     rw (promise .answer-is, given)
-    (refused-alike file transfer cheque out notes taken (λ z. unsound (judged 0 transfer cheque file .sound .0 z)))
+    (refused-alike page file transfer cheque out notes taken (λ z. unsound (judged page transfer cheque file .sound .0 z)))

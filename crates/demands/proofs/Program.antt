@@ -26,11 +26,11 @@ use Rattle.demands.proofs.Forwarding.{listed, listed-one}
 
 module _ (input : List ℕ) where
   -- with no taken numbers the judge answers its verdict
-  verdict-is : judgeOf input annexII annexI [] ≡ verdictOf 0 input annexII annexI
+  verdict-is : judgeOf 1 input annexII annexI [] ≡ verdictOf 1 input annexII annexI
   unfolding judgeOf isTaken
-  verdict-is = go (eqb (verdictOf 0 input annexII annexI .number) 0)
+  verdict-is = go (eqb (verdictOf 1 input annexII annexI .number) 0)
     where
-      go : (b : Bool) → cond b (verdictOf 0 input annexII annexI) (verdictOf 0 input annexII annexI) ≡ verdictOf 0 input annexII annexI
+      go : (b : Bool) → cond b (verdictOf 1 input annexII annexI) (verdictOf 1 input annexII annexI) ≡ verdictOf 1 input annexII annexI
       go true = refl
       go false = refl
 
@@ -48,19 +48,19 @@ module _ (input : List ℕ) where
       go : (over : Bool)
           → ToldNumber
           (cond over (lines (refused 6 0 0) 0)
-          (lines (judgeOf input annexII annexI []) (cond (eqb (judgeOf input annexII annexI [] .number) 0) (length (notesOf 0 input)) 0)) .verdict)
+          (lines (judgeOf 1 input annexII annexI []) (cond (eqb (judgeOf 1 input annexII annexI [] .number) 0) (length (notesOf 1 input)) 0)) .verdict)
       go true = inr (inr refl)
-      go false = rw verdict-is (rule _ (told input annexII annexI))
+      go false = rw verdict-is (rule _ (told 1 input annexII annexI))
 
   tells : Tells input (reportOf input)
   unfolding reportOf
-  tells = go (ltb 65024 (length input)) (eqb (judgeOf input annexII annexI [] .number) 0) refl refl
+  tells = go (ltb 65024 (length input)) (eqb (judgeOf 1 input annexII annexI [] .number) 0) refl refl
     where
-      zeros : (judgeOf input annexII annexI [] .number ≡ 0 → ⊥) → Zeros (judgeOf input annexII annexI [])
-      zeros n = subst Zeros (sym verdict-is) (refused-zeros input annexII annexI (λ z. n (ap (λ (w : Verdict). w .number) verdict-is ∙ z)))
+      zeros : (judgeOf 1 input annexII annexI [] .number ≡ 0 → ⊥) → Zeros (judgeOf 1 input annexII annexI [])
+      zeros n = subst Zeros (sym verdict-is) (refused-zeros 1 input annexII annexI (λ z. n (ap (λ (w : Verdict). w .number) verdict-is ∙ z)))
 
-      go : (over zero : Bool) → ltb 65024 (length input) ≡ over → eqb (judgeOf input annexII annexI [] .number) 0 ≡ zero
-          → Tells input (cond over (lines (refused 6 0 0) 0) (lines (judgeOf input annexII annexI []) (cond zero (length (notesOf 0 input)) 0)))
+      go : (over zero : Bool) → ltb 65024 (length input) ≡ over → eqb (judgeOf 1 input annexII annexI [] .number) 0 ≡ zero
+          → Tells input (cond over (lines (refused 6 0 0) 0) (lines (judgeOf 1 input annexII annexI []) (cond zero (length (notesOf 1 input)) 0)))
       go true zero p q =
           record {
             over = λ l. (refl, refl, refl);
@@ -69,15 +69,15 @@ module _ (input : List ℕ) where
             refused = λ n. (refl, refl, refl, refl);
           }
       go false true p q =
-          let z = eqb-true (judgeOf input annexII annexI [] .number) 0 q in
+          let z = eqb-true (judgeOf 1 input annexII annexI [] .number) 0 q in
           record {
             over = λ l. absurd (omega (arith, ltb-false 65024 (length input) p));
             judged = λ s. refl;
-            counted = λ b changes list e. ap length (listed-one 0 input (notesOf 0 input) changes (listed 0 input b) list);
+            counted = λ b changes list e. ap length (listed-one 1 input (notesOf 1 input) changes (listed 1 input b) list);
             refused = λ n. absurd (n z);
           }
       go false false p q =
-          let n = eqb-false (judgeOf input annexII annexI [] .number) 0 q in
+          let n = eqb-false (judgeOf 1 input annexII annexI [] .number) 0 q in
           let w = zeros n in
           record {
             over = λ l. absurd (omega (arith, ltb-false 65024 (length input) p));
@@ -105,7 +105,7 @@ never-shows input answer promise = (no 50 (omega arith), no 60 (omega arith), no
 
 pub desk-judge-tells : DeskJudgeTells
 desk-judge-tells file transfer cheque answer verdict coded given =
-    let small = judge-small file transfer cheque [] in
+    let small = judge-small 0 file transfer cheque [] in
     let is : answer ≡ verdict .rec * 100 + verdict .number = coded ∙ ap answerOf (sym given) in
     let below : verdict .number ≤ 50 = omega (arith, small .0, ap (λ (v : Verdict). v .number) given) in
     (omega (arith, is, below), omega (arith, is, below))

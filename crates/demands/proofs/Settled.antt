@@ -15,27 +15,27 @@ equal : {A : Type 0} (b : A) → Settled (λ (a : A). a ≡ b)
 equal b = record { some = (b, refl); coincide = λ x y p q. p ∙ sym q }
 
 pub judge-settled : JudgeSettled
-judge-settled file transfer cheque taken = equal _
+judge-settled page file transfer cheque taken = equal _
 
 pub prepare-settled : PrepareSettled
-prepare-settled file transfer cheque out notes =
+prepare-settled page file transfer cheque out notes =
     record {
       some =
-          let answer = prepareOf 0 file transfer cheque out notes in
-          ((answer, outputAfter answer 0 file out, notesAfter answer 0 file notes), record { answer-is = refl; out-is = refl; notes-are = refl });
+          let answer = prepareOf page file transfer cheque out notes in
+          ((answer, outputAfter answer page file out, notesAfter answer page file notes), record { answer-is = refl; out-is = refl; notes-are = refl });
       coincide =
           λ x y p q.
           let same : x .0 ≡ y .0 = p .answer-is ∙ sym (q .answer-is) in
-          let outs = p .out-is ∙ ap (λ (r : Prepared). outputAfter r 0 file out) same ∙ sym (q .out-is) in
-          let places = p .notes-are ∙ ap (λ (r : Prepared). notesAfter r 0 file notes) same ∙ sym (q .notes-are) in
+          let outs = p .out-is ∙ ap (λ (r : Prepared). outputAfter r page file out) same ∙ sym (q .out-is) in
+          let places = p .notes-are ∙ ap (λ (r : Prepared). notesAfter r page file notes) same ∙ sym (q .notes-are) in
           λ i. (same i, outs i, places i);
     }
 
 pub restore-settled : RestoreSettled
-restore-settled sent notes transfer cheque out =
+restore-settled page sent notes transfer cheque out =
     record {
       some =
-          let answer = restoreOf 0 sent notes transfer cheque (length out) in
+          let answer = restoreOf page sent notes transfer cheque (length out) in
           ((answer, restoredInto answer sent notes out), record { answer-is = refl; out-is = refl });
       coincide =
           λ x y p q.

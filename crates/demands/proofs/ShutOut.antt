@@ -24,26 +24,16 @@ use Rattle.judge.specs.Verdict.{verdictOf}
 use Rattle.judge.specs.declared.Verdict.{Verdict}
 use Rattle.forwarding.specs.Forwarded.{notesOf}
 use Rattle.forwarding.specs.RoundTrip.{Bytes}
+use Rattle.demands.specs.Page.{Page}
 use Rattle.demands.specs.Sample.{transfer, cheque}
 use Rattle.demands.specs.Demand1.{FileRule}
 use Rattle.demands.specs.Demand2.{Sound, Judges}
 use Rattle.demands.specs.ShutOut.{BrokenLater, RefusesAll, FindsAllSound, WavesThrough, OnlyCopies}
-use Rattle.demands.proofs.Cases.{noted, blanked, quiet, Samples, cases-hold}
+use Rattle.demands.proofs.Cases.{noted, blanked, quiet, Found, found, due, cases-hold}
 use Rattle.demands.proofs.Ranges.{t-range}
 use Rattle.demands.proofs.Demand1.{broken-rule}
 use Rattle.demands.proofs.Demand2.{judged, broken-in}
 use Rattle.demands.proofs.Forwarding.{listed, listed-one}
-
--- what was computed of them
-samples : Samples
-samples = cases-hold .1
-
-sound-noted : Sound 0 transfer cheque noted
-sound-noted = judged 0 transfer cheque noted .sound .0 (samples .noted-sound)
-
-pub refuses-all : RefusesAll
-unfolding isTaken
-refuses-all judge never promise = never noted transfer cheque [] (promise noted transfer cheque [] .free sound-noted refl .0)
 
 -- no rule has number 0, so an unsound file is not told 0
 rule-real : (n : ℕ) → FileRule n → 1 ≤ n
@@ -52,16 +42,12 @@ rule-real n (inr (inl r)) = omega (arith, r .0)
 rule-real n (inr (inr (inl r))) = omega (arith, r .0)
 rule-real n (inr (inr (inr r))) = omega (arith, r .0)
 
-not-told-0 : (file : List ℕ) (number : ℕ) (answer : Verdict) → verdictOf 0 file transfer cheque .number ≡ number → 0 < number
-    → Judges transfer cheque [] file answer → answer .number ≡ 0 → ⊥
-not-told-0 file number answer e some promise z =
-    let unsound : Sound 0 transfer cheque file → ⊥ = λ s. omega (arith, e, judged 0 transfer cheque file .sound .1 s, some) in
+not-told-0 : (page : ℕ) (file : List ℕ) (number : ℕ) (answer : Verdict) → verdictOf page file transfer cheque .number ≡ number → 0 < number
+    → Judges page transfer cheque [] file answer → answer .number ≡ 0 → ⊥
+not-told-0 page file number answer e some promise z =
+    let unsound : Sound page transfer cheque file → ⊥ = λ s. omega (arith, e, judged page transfer cheque file .sound .1 s, some) in
     let first = promise .unsound unsound .0 in
-    omega (arith, z, rule-real (answer .number) (broken-rule file transfer cheque (answer .number) (answer .rec) (first .turn) (first .there)))
-
-pub finds-all-sound : FindsAllSound
-finds-all-sound judge always promise =
-    not-told-0 [] 2 (judge [] transfer cheque []) (samples .empty-refused) (lit< tt) (promise [] transfer cheque []) (always [] transfer cheque [])
+    omega (arith, z, rule-real (answer .number) (broken-rule page file transfer cheque (answer .number) (answer .rec) (first .turn) (first .there)))
 
 -- rules of which each row says that it holds say 0
 quiet-zero : (rows : List (ℕ × ℕ)) → quiet rows ≡ true → (rule : ℕ) → byNumber rows rule ≡ 0
@@ -70,51 +56,70 @@ quiet-zero (row ∷ rows) e rule =
     let w = both (eqb (row .1) 0) (quiet rows) e in
     either (λ (n : ℕ). n ≡ 0) (eqb rule (row .0)) (row .1) (byNumber rows rule) (eqb-true (row .1) 0 (w .0)) (quiet-zero rows (w .1) rule)
 
-q-holds : (rule : ℕ) → 0 ≡ qFault 0 (slotAt blanked 0) rule
-unfolding qFault
-q-holds rule = sym (quiet-zero (qRules 0 (slotAt blanked 0)) (samples .q-quiet) rule)
+-- what was computed of the samples, on a page that there is
+samples : (page : ℕ) → Page page → found page ≡ due
+samples page (inl e) = ap found e ∙ cases-hold .1
+samples page (inr e) = ap found e ∙ cases-hold .2
 
-t-holds : (rule : ℕ) → 0 ≡ tFault 0 transfer cheque (keyOf (slotAt blanked 1)) (slotAt blanked 1) rule
-unfolding tFault
-t-holds rule = sym (quiet-zero (tRules 0 transfer cheque (keyOf (slotAt blanked 1)) (slotAt blanked 1)) (samples .t-quiet) rule)
+module _ (page : ℕ) (p : Page page) where
+  sound-noted : Sound page transfer cheque noted
+  sound-noted = judged page transfer cheque noted .sound .0 (ap (λ (f : Found). f .of-noted) (samples page p))
 
-z-holds : (rule : ℕ) → 0 ≡ zFault 2 (euroSum blanked 2) (slotAt blanked 3) rule
-unfolding zFault
-z-holds rule = sym (quiet-zero (zRules 2 (euroSum blanked 2) (slotAt blanked 3)) (samples .z-quiet) rule)
+  q-holds : (rule : ℕ) → 0 ≡ qFault page (slotAt blanked 0) rule
+  unfolding qFault
+  q-holds rule = sym (quiet-zero (qRules page (slotAt blanked 0)) (ap (λ (f : Found). f .q-quiet) (samples page p)) rule)
 
--- only record 2 breaks a rule, and that a T rule
-later : BrokenLater transfer cheque blanked
-later m j i b = go (eqb j 0) (eqb j 1) (leb j 2) refl refl refl (broken-in 0 transfer cheque blanked 2 (omega (arith, fit .long)) fit m j i b)
-  where
-    fit : Fit blanked 2
-    fit = fits blanked 2 (samples .blanked-fits)
+  t-holds : (rule : ℕ) → 0 ≡ tFault page transfer cheque (keyOf (slotAt blanked 1)) (slotAt blanked 1) rule
+  unfolding tFault
+  t-holds rule =
+      sym (quiet-zero (tRules page transfer cheque (keyOf (slotAt blanked 1)) (slotAt blanked 1)) (ap (λ (f : Found). f .t-quiet) (samples page p)) rule)
 
-    go : (first second third : Bool) → eqb j 0 ≡ first → eqb j 1 ≡ second → leb j 2 ≡ third
-        → (j ≤ 2 + 1) × (faultOf 0 blanked 2 (euroSum blanked 2) transfer cheque j m ≡ 0 → ⊥) → (20 ≤ m) × (m ≤ 35) × (2 ≤ j)
-    go true second third p q r w =
-        absurd (w .1 (sym (of-q 0 blanked 2 (euroSum blanked 2) transfer cheque j m 0 (eqb-true j 0 p) refl (q-holds m))))
-    go false true third p q r w =
-        let at = eqb-true j 1 q in
-        absurd
-        (w .1
-        (sym
-        (of-t 0 blanked 2 (euroSum blanked 2) transfer cheque j m 0 (eqb-false j 0 p) (omega (arith, at)) refl refl (sym (ap (slotAt blanked) at)) (t-holds m))))
-    go false false true p q r w =
-        let range =
-        t-range 0 transfer cheque (keyOf (slotAt blanked 1)) (slotAt blanked j) m
-        (λ z. w .1 (sym (of-t 0 blanked 2 (euroSum blanked 2) transfer cheque j m 0 (eqb-false j 0 p) (leb-true j 2 r) refl refl refl (sym z)))) in
-        (range .0, omega (arith, range .1), omega (arith, eqb-false j 0 p, eqb-false j 1 q))
-    go false false false p q r w =
-        let at : j ≡ 3 = omega (arith, w .0, leb-false j 2 r) in
-        absurd
-        (w .1
-        (sym
-        (of-z 0 blanked 2 (euroSum blanked 2) transfer cheque j m 0 (eqb-false j 0 p) (leb-false j 2 r) (sym (ap (slotAt blanked) at)) (z-holds m))))
+  z-holds : (rule : ℕ) → 0 ≡ zFault 2 (euroSum blanked 2) (slotAt blanked 3) rule
+  unfolding zFault
+  z-holds rule = sym (quiet-zero (zRules 2 (euroSum blanked 2) (slotAt blanked 3)) (ap (λ (f : Found). f .z-quiet) (samples page p)) rule)
+
+  -- only record 2 breaks a rule, and that a T rule
+  later : BrokenLater page transfer cheque blanked
+  later m j i b = go (eqb j 0) (eqb j 1) (leb j 2) refl refl refl (broken-in page transfer cheque blanked 2 (omega (arith, fit .long)) fit m j i b)
+    where
+      fit : Fit blanked 2
+      fit = fits blanked 2 (ap (λ (f : Found). f .blanked-shape) (samples page p))
+
+      go : (first second third : Bool) → eqb j 0 ≡ first → eqb j 1 ≡ second → leb j 2 ≡ third
+          → (j ≤ 2 + 1) × (faultOf page blanked 2 (euroSum blanked 2) transfer cheque j m ≡ 0 → ⊥) → (20 ≤ m) × (m ≤ 35) × (2 ≤ j)
+      go true second third p q r w =
+          absurd (w .1 (sym (of-q page blanked 2 (euroSum blanked 2) transfer cheque j m 0 (eqb-true j 0 p) refl (q-holds m))))
+      go false true third p q r w =
+          let at = eqb-true j 1 q in
+          absurd
+          (w .1
+          (sym
+          (of-t page blanked 2 (euroSum blanked 2) transfer cheque j m 0 (eqb-false j 0 p) (omega (arith, at)) refl refl (sym (ap (slotAt blanked) at)) (t-holds m))))
+      go false false true p q r w =
+          let range =
+          t-range page transfer cheque (keyOf (slotAt blanked 1)) (slotAt blanked j) m
+          (λ z. w .1 (sym (of-t page blanked 2 (euroSum blanked 2) transfer cheque j m 0 (eqb-false j 0 p) (leb-true j 2 r) refl refl refl (sym z)))) in
+          (range .0, omega (arith, range .1), omega (arith, eqb-false j 0 p, eqb-false j 1 q))
+      go false false false p q r w =
+          let at : j ≡ 3 = omega (arith, w .0, leb-false j 2 r) in
+          absurd
+          (w .1
+          (sym
+          (of-z page blanked 2 (euroSum blanked 2) transfer cheque j m 0 (eqb-false j 0 p) (leb-false j 2 r) (sym (ap (slotAt blanked) at)) (z-holds m))))
+
+pub refuses-all : RefusesAll
+unfolding isTaken
+refuses-all page judge p never promise = never noted transfer cheque [] (promise noted transfer cheque [] .free (sound-noted page p) refl .0)
+
+pub finds-all-sound : FindsAllSound
+finds-all-sound page judge p always promise =
+    not-told-0 page [] 2 (judge [] transfer cheque []) (ap (λ (f : Found). f .of-empty) (samples page p)) (lit< tt) (promise [] transfer cheque [])
+    (always [] transfer cheque [])
 
 pub waves-through : WavesThrough
-waves-through judge passes promise =
-    not-told-0 blanked 29 (judge blanked transfer cheque []) (samples .blanked-refused) (lit< tt) (promise blanked transfer cheque [])
-    (passes blanked transfer cheque later)
+waves-through page judge p passes promise =
+    not-told-0 page blanked 29 (judge blanked transfer cheque []) (ap (λ (f : Found). f .of-blanked) (samples page p)) (lit< tt)
+    (promise blanked transfer cheque []) (passes blanked transfer cheque (later page p))
 
 bytes-of : (file : List ℕ) → every (λ (b : ℕ). ltb b 256) file ≡ true → Bytes file
 bytes-of [] e k = lit< tt
@@ -122,14 +127,16 @@ bytes-of (b ∷ file) e zero = ltb-true b 256 (both (ltb b 256) (every (λ (b : 
 bytes-of (b ∷ file) e (suc k) = bytes-of file (both (ltb b 256) (every (λ (b : ℕ). ltb b 256) file) e .1) k
 
 pub only-copies : OnlyCopies
-only-copies prepare copies promise =
-    let bytes = bytes-of noted (samples .noted-bytes) in
-    let changes = listed 0 noted bytes in
-    let one : length (notesOf 0 noted) ≡ 1 = ap length (samples .one-note) in
-    let p = promise noted transfer cheque noted (0 ∷ []) (notesOf 0 noted) bytes changes in
-    let z = p .0 .done .1 (sound-noted, le-refl (length noted), omega (arith, one)) in
+only-copies page prepare there copies promise =
+    let s = samples page there in
+    let bytes = bytes-of noted (ap (λ (f : Found). f .noted-bytes) s) in
+    let changes = listed page noted bytes in
+    let one-note : notesOf page noted ≡ 316198 ∷ [] = ap (λ (f : Found). f .noted-notes) s in
+    let one : length (notesOf page noted) ≡ 1 = ap length one-note in
+    let p = promise noted transfer cheque noted (0 ∷ []) (notesOf page noted) bytes changes in
+    let z = p .0 .done .1 (sound-noted page there, le-refl (length noted), omega (arith, one)) in
     let left : _≡_ {A = List ℕ} (0 ∷ []) (316198 ∷ []) =
     ap₂ take (sym one ∙ sym (p .0 .noted z)) (sym (copies noted transfer cheque noted (0 ∷ []) z .1))
-    ∙ listed-one 0 noted _ _ (p .1 z .noted) changes
-    ∙ samples .one-note in
+    ∙ listed-one page noted _ _ (p .1 z .noted) changes
+    ∙ one-note in
     omega (arith, ap (λ (l : List ℕ). getD l 0 0) left)

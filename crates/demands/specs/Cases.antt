@@ -1,5 +1,6 @@
 -- Document 01, "Both sides of each edge" (RULES 12): the cases marked (P), one row each, in one table. That every row
--- holds is one fact.
+-- holds is one fact. They hold on both code pages, but for case 5, which speaks of page 0: beside it stands its sibling for
+-- page 1 (document 02, A2).
 use Prim.Native.Nat.{ℕ}
 use Prim.Native.Char.{code}
 use mathlib.Core.Bool.{Bool, _&&_, not}
@@ -13,11 +14,17 @@ use Rattle.fields.specs.Bic.{bicShape}
 use Rattle.judge.specs.Verdict.{judgeOf}
 use Rattle.demands.specs.Sample.{q, z, one, two, transfer, cheque}
 
+-- on both pages
+abbrev onBoth : (ℕ → Bool) → Bool
+onBoth holds = holds 0 && holds 1
+
 -- the judge's answer to a file, without taken numbers: number and record
 abbrev answers : List ℕ → ℕ → ℕ → Bool
 answers file number rec =
-    let v = judgeOf file transfer cheque [] in
-    eqb (v .number) number && eqb (v .rec) rec
+    onBoth
+    (λ page.
+    let v = judgeOf page file transfer cheque [] in
+    eqb (v .number) number && eqb (v .rec) rec)
 
 -- a case's number in document 01, and whether it holds
 abbrev pub cases : List (ℕ × Bool)
@@ -25,12 +32,13 @@ cases =
     (1, answers [] 2 0)
     ∷ (2, answers (ascii "0256") 2 0)
     ∷ (3, answers (q ++ z "000000000000000" "000000000000000") 4 1)
-    ∷ (4, eqb (rep 0 (code "&")) (code "+"))
+    ∷ (4, onBoth (λ page. eqb (rep page (code "&")) (code "+")))
     ∷ (5, eqb (rep 0 0x5B) (code "A") && eqb (rep 0 0xC4) (code " "))
+    ∷ (5, eqb (rep 1 0xC4) (code "A") && eqb (rep 1 0x5B) (code " "))
     ∷ (6, isDate (ascii "000229"))
     ∷ (7, not (isDate (ascii "010229")))
-    ∷ (8, bicShape 0 (ascii "ABCDDEFF   "))
-    ∷ (9, not (bicShape 0 (ascii "SC123456   ")))
+    ∷ (8, onBoth (λ page. bicShape page (ascii "ABCDDEFF   ")))
+    ∷ (9, onBoth (λ page. not (bicShape page (ascii "SC123456   "))))
     ∷ (10, answers (one "A. MUSTER" "500") 0 0 && answers (one "A. MUSTER" "505") 33 1)
     ∷ (11, answers (one "===================================" "500") 29 1)
     ∷ (12, answers (two "B. MUSTER" "000000000000199") 0 0 && answers (two "B. MUSTER" "000000000000200") 42 3)

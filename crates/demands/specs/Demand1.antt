@@ -1,7 +1,7 @@
 -- Demand 1: "Any bytes, any country lists, any room may be handed in. Every call ends with an answer or a numbered refusal, and
 -- a refused call changes no byte that it was lent." (RULES 9.1) Which numbers a call can answer, by document 01's table
--- (RULES 4, 6, 8); show answers a part. And what is left of lent memory: judge, show and the program are lent nothing for
--- writing; prepare is lent output and note places, restore an output.
+-- (RULES 4, 6, 8) and document 02, A2: 7; show answers a part. Any page number may be handed in too. And what is left of lent
+-- memory: judge, show and the program are lent nothing for writing; prepare is lent output and note places, restore an output.
 use Prim.Native.Nat.{ℕ, _≤_}
 use mathlib.Core.Path.{_≡_}
 use mathlib.Core.List.{List}
@@ -24,20 +24,20 @@ FileRule n = ((1 ≤ n) × (n ≤ 5)) ⊎ ContentRule n
 
 abbrev pub JudgeNumbers : Type 0
 JudgeNumbers =
-    (file transfer cheque taken : List ℕ) (answer : Verdict) → JudgedAs file transfer cheque taken answer
-    → (answer .number ≡ 0) ⊎ (FileRule (answer .number) ⊎ (answer .number ≡ 50))
+    (page : ℕ) (file transfer cheque taken : List ℕ) (answer : Verdict) → JudgedAs page file transfer cheque taken answer
+    → (answer .number ≡ 0) ⊎ (FileRule (answer .number) ⊎ ((answer .number ≡ 7) ⊎ (answer .number ≡ 50)))
 
 abbrev pub PrepareNumbers : Type 0
 PrepareNumbers =
-    (file transfer cheque out notes out' notes' : List ℕ) (answer : Prepared)
-    → PreparedAs 0 file transfer cheque out notes answer out' notes'
-    → (answer .number ≡ 0) ⊎ (FileRule (answer .number) ⊎ ((answer .number ≡ 60) ⊎ (answer .number ≡ 61)))
+    (page : ℕ) (file transfer cheque out notes out' notes' : List ℕ) (answer : Prepared)
+    → PreparedAs page file transfer cheque out notes answer out' notes'
+    → (answer .number ≡ 0) ⊎ (FileRule (answer .number) ⊎ ((answer .number ≡ 7) ⊎ ((answer .number ≡ 60) ⊎ (answer .number ≡ 61))))
 
 abbrev pub RestoreNumbers : Type 0
 RestoreNumbers =
-    (sent notes transfer cheque out out' : List ℕ) (answer : Restored)
-    → RestoredAs 0 sent notes transfer cheque out answer out'
-    → (answer .number ≡ 0) ⊎ ((answer .number ≡ 60) ⊎ (answer .number ≡ 70))
+    (page : ℕ) (sent notes transfer cheque out out' : List ℕ) (answer : Restored)
+    → RestoredAs page sent notes transfer cheque out answer out'
+    → (answer .number ≡ 0) ⊎ ((answer .number ≡ 7) ⊎ ((answer .number ≡ 60) ⊎ (answer .number ≡ 70)))
 
 abbrev pub TellNumbers : Type 0
 TellNumbers =
@@ -46,10 +46,10 @@ TellNumbers =
 
 abbrev pub PrepareKeeps : Type 0
 PrepareKeeps =
-    (file transfer cheque out notes out' notes' : List ℕ) (answer : Prepared)
-    → PreparedAs 0 file transfer cheque out notes answer out' notes' → (answer .number ≡ 0 → ⊥) → (out' ≡ out) × (notes' ≡ notes)
+    (page : ℕ) (file transfer cheque out notes out' notes' : List ℕ) (answer : Prepared)
+    → PreparedAs page file transfer cheque out notes answer out' notes' → (answer .number ≡ 0 → ⊥) → (out' ≡ out) × (notes' ≡ notes)
 
 abbrev pub RestoreKeeps : Type 0
 RestoreKeeps =
-    (sent notes transfer cheque out out' : List ℕ) (answer : Restored)
-    → RestoredAs 0 sent notes transfer cheque out answer out' → (answer .number ≡ 0 → ⊥) → out' ≡ out
+    (page : ℕ) (sent notes transfer cheque out out' : List ℕ) (answer : Restored)
+    → RestoredAs page sent notes transfer cheque out answer out' → (answer .number ≡ 0 → ⊥) → out' ≡ out

@@ -1,6 +1,6 @@
 -- Demand 2: "A file is sound exactly when it breaks no rule; otherwise the answer is the first broken rule in the stated
 -- order, with its record." (RULES 7) And the place in that record that document 02, A1, asks for (RULES 7.1). And what the
--- judge answers of it (RULES 9.2).
+-- judge answers of it (RULES 9.2). Document 02, A2: "under a fixed code page and fixed lists".
 use Prim.Native.Nat.{ℕ}
 use mathlib.Core.Path.{_≡_}
 use mathlib.Core.List.{List}
@@ -13,6 +13,7 @@ use Rattle.judge.specs.Sums.{euros, cents, fileNumber}
 use Rattle.judge.specs.Records.{MadeOf, sumOf}
 use Rattle.judge.specs.Verdict.{verdictOf, JudgedAs}
 use Rattle.judge.specs.declared.Verdict.{Verdict}
+use Rattle.demands.specs.Page.{Page}
 use Rattle.demands.specs.Broken.{Broken, Before}
 use Rattle.demands.specs.Where.{Points}
 
@@ -59,17 +60,17 @@ abbrev pub Zeros : Verdict → Type 0
 Zeros answer = (answer .payments ≡ 0) × (answer .euros ≡ 0) × (answer .cents ≡ 0)
 
 -- the judge's own answer: "Rule 50 belongs to the judge alone and comes after all others"
-module _ (transfer cheque taken file : List ℕ) where
+module _ (page : ℕ) (transfer cheque taken file : List ℕ) where
   pub record Judges (answer : Verdict) : Type 0 where
-    pub free : Sound 0 transfer cheque file → isTaken taken (fileNumber (slotAt file 0)) ≡ false
+    pub free : Sound page transfer cheque file → isTaken taken (fileNumber (slotAt file 0)) ≡ false
         → (answer .number ≡ 0) × (answer .rec ≡ 0) × (answer .at ≡ 0) × Counted file answer
-    pub used : Sound 0 transfer cheque file → isTaken taken (fileNumber (slotAt file 0)) ≡ true
+    pub used : Sound page transfer cheque file → isTaken taken (fileNumber (slotAt file 0)) ≡ true
         → (answer .number ≡ 50) × (answer .rec ≡ 0) × (answer .at ≡ 0) × Zeros answer
-    pub unsound : (Sound 0 transfer cheque file → ⊥)
-        → First 0 transfer cheque file (answer .number) (answer .rec)
-        × Points 0 transfer cheque file (answer .number) (answer .rec) (answer .at) × Zeros answer
+    pub unsound : (Sound page transfer cheque file → ⊥)
+        → First page transfer cheque file (answer .number) (answer .rec)
+        × Points page transfer cheque file (answer .number) (answer .rec) (answer .at) × Zeros answer
 
 abbrev pub JudgeAnswers : Type 0
 JudgeAnswers =
-    (file transfer cheque taken : List ℕ) (answer : Verdict) → JudgedAs file transfer cheque taken answer
-    → Judges transfer cheque taken file answer
+    (page : ℕ) (file transfer cheque taken : List ℕ) (answer : Verdict) → Page page → JudgedAs page file transfer cheque taken answer
+    → Judges page transfer cheque taken file answer

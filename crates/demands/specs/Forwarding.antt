@@ -1,6 +1,7 @@
 -- Demand 2: "The forwarded file is the sound file with each text character replaced by the table, and the notes list
 -- every changed character once, by rising place." (RULES 10.1, 10.2) And when prepare forwards, by document 01: it
--- "reads soundness, then 60, then 61, each only in that case; record 0 for both and for success" (RULES 9.4).
+-- "reads soundness, then 60, then 61, each only in that case; record 0 for both and for success" (RULES 9.4). Document 02,
+-- A2: "under a fixed code page and fixed lists".
 use Prim.Native.Nat.{ℕ, _+_, _*_, _/_, _≤_, _<_}
 use mathlib.Core.Path.{_≡_}
 use mathlib.Core.Bool.{true, false}
@@ -14,6 +15,7 @@ use Rattle.forwarding.specs.Text.{textAt}
 use Rattle.forwarding.specs.RoundTrip.{Bytes}
 use Rattle.prepare.specs.Prepared.{PreparedAs}
 use Rattle.prepare.specs.declared.Prepared.{Prepared}
+use Rattle.demands.specs.Page.{Page}
 use Rattle.demands.specs.Settled.{Settled}
 use Rattle.demands.specs.Demand2.{Sound}
 
@@ -55,9 +57,9 @@ pub record Sent (page : ℕ) (file transfer cheque out notes out' notes' : List 
 
 abbrev pub Forwards : Type 0
 Forwards =
-    (file transfer cheque out notes out' notes' : List ℕ) (answer : Prepared)
-    → Bytes file → PreparedAs 0 file transfer cheque out notes answer out' notes' → answer .number ≡ 0
-    → Sent 0 file transfer cheque out notes out' notes' (answer .notes)
+    (page : ℕ) (file transfer cheque out notes out' notes' : List ℕ) (answer : Prepared)
+    → Bytes file → PreparedAs page file transfer cheque out notes answer out' notes' → answer .number ≡ 0
+    → Sent page file transfer cheque out notes out' notes' (answer .notes)
 
 -- what prepare answers, where `changes` are the notes of the file's changed characters
 module _ (page : ℕ) (file transfer cheque out notes changes : List ℕ) (answer : Prepared) where
@@ -73,13 +75,13 @@ module _ (page : ℕ) (file transfer cheque out notes changes : List ℕ) (answe
 
 abbrev pub PrepareExactly : Type 0
 PrepareExactly =
-    (file transfer cheque out notes out' notes' changes : List ℕ) (answer : Prepared)
-    → Bytes file → Listed 0 file changes → PreparedAs 0 file transfer cheque out notes answer out' notes'
-    → Exactly 0 file transfer cheque out notes changes answer
+    (page : ℕ) (file transfer cheque out notes out' notes' changes : List ℕ) (answer : Prepared)
+    → Page page → Bytes file → Listed page file changes → PreparedAs page file transfer cheque out notes answer out' notes'
+    → Exactly page file transfer cheque out notes changes answer
 
 -- an unsound file gets the judge's number and record
 abbrev pub PrepareAsJudged : Type 0
 PrepareAsJudged =
-    (file transfer cheque taken out notes out' notes' : List ℕ) (answer : Prepared) (verdict : Verdict)
-    → PreparedAs 0 file transfer cheque out notes answer out' notes' → JudgedAs file transfer cheque taken verdict
-    → (Sound 0 transfer cheque file → ⊥) → (answer .number ≡ verdict .number) × (answer .rec ≡ verdict .rec)
+    (page : ℕ) (file transfer cheque taken out notes out' notes' : List ℕ) (answer : Prepared) (verdict : Verdict)
+    → PreparedAs page file transfer cheque out notes answer out' notes' → JudgedAs page file transfer cheque taken verdict
+    → (Sound page transfer cheque file → ⊥) → (answer .number ≡ verdict .number) × (answer .rec ≡ verdict .rec)

@@ -1,3 +1,4 @@
+pub mod Page
 pub mod Sample
 pub mod Cases
 pub mod Broken

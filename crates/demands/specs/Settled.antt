@@ -1,6 +1,6 @@
 -- Document 01, "What every promise settles" (RULES 14): "For each input, refused ones too, a public call's promise
 -- leaves one possible answer and one possible content of all memory it was lent. That any two permitted outcomes
--- coincide is proved". Over the predicates that the calls' `ensures` state. `desk_judge_full`, `desk_prepare` and
+-- coincide is proved". On any page, also one that does not exist. Over the predicates that the calls' `ensures` state. `desk_judge_full`, `desk_prepare` and
 -- `desk_restore` promise `JudgedAs`, `PreparedAs` and `RestoredAs` too.
 use Prim.Native.Nat.{ℕ}
 use mathlib.Core.Path.{_≡_}
@@ -23,18 +23,18 @@ pub record Settled {A : Type 0} (Permitted : A → Type 0) : Type 0 where
   pub coincide : (a b : A) → Permitted a → Permitted b → a ≡ b
 
 abbrev pub JudgeSettled : Type 0
-JudgeSettled = (file transfer cheque taken : List ℕ) → Settled (λ (o : Verdict). JudgedAs file transfer cheque taken o)
+JudgeSettled = (page : ℕ) (file transfer cheque taken : List ℕ) → Settled (λ (o : Verdict). JudgedAs page file transfer cheque taken o)
 
 -- an outcome of prepare: the answer, and what is left of the output and of the note places
 abbrev pub PrepareSettled : Type 0
 PrepareSettled =
-    (file transfer cheque out notes : List ℕ)
-    → Settled (λ (o : Prepared × List ℕ × List ℕ). PreparedAs 0 file transfer cheque out notes (o .0) (o .1) (o .2))
+    (page : ℕ) (file transfer cheque out notes : List ℕ)
+    → Settled (λ (o : Prepared × List ℕ × List ℕ). PreparedAs page file transfer cheque out notes (o .0) (o .1) (o .2))
 
 abbrev pub RestoreSettled : Type 0
 RestoreSettled =
-    (sent notes transfer cheque out : List ℕ)
-    → Settled (λ (o : Restored × List ℕ). RestoredAs 0 sent notes transfer cheque out (o .0) (o .1))
+    (page : ℕ) (sent notes transfer cheque out : List ℕ)
+    → Settled (λ (o : Restored × List ℕ). RestoredAs page sent notes transfer cheque out (o .0) (o .1))
 
 -- an outcome of show: where the part begins in the caller's memory, and its bytes
 abbrev pub ShowSettled : Type 0

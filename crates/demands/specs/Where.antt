@@ -102,13 +102,14 @@ pub record Named (number at : ℕ) : Type 0 where
 
 abbrev pub PlacesNamed : Type 0
 PlacesNamed =
-    (file transfer cheque taken : List ℕ) (answer : Verdict) → JudgedAs file transfer cheque taken answer → Named (answer .number) (answer .at)
+    (page : ℕ) (file transfer cheque taken : List ℕ) (answer : Verdict) → JudgedAs page file transfer cheque taken answer
+    → Named (answer .number) (answer .at)
 
--- "Rules 1 to 6, 50 and a sound file give 0", and nothing else does
+-- "Rules 1 to 6, 50 and a sound file give 0", and by A2 7, and nothing else does
 abbrev pub JudgeAtZero : Type 0
 JudgeAtZero =
-    (file transfer cheque taken : List ℕ) (answer : Verdict) → JudgedAs file transfer cheque taken answer
-    → (answer .at ≡ 0) ↔ ((answer .number ≤ 5) ⊎ (answer .number ≡ 50))
+    (page : ℕ) (file transfer cheque taken : List ℕ) (answer : Verdict) → JudgedAs page file transfer cheque taken answer
+    → (answer .at ≡ 0) ↔ ((answer .number ≤ 5) ⊎ ((answer .number ≡ 7) ⊎ (answer .number ≡ 50)))
 
 abbrev pub TellAtZero : Type 0
 TellAtZero = (input : List ℕ) (answer : Report) → ToldAs input answer → (answer .at ≡ 0) ↔ (answer .verdict ≤ 6)
