@@ -198,7 +198,8 @@ pub fn examine(page: u32, file: &[u8], transfer: &[u8], cheque: &[u8]) -> Verdic
 pub fn judge(page: u32, file: &[u8], transfer: &[u8], cheque: &[u8], taken: &[u64]) -> Verdict
     ensures { λ r. ⌜ JudgedAs page (now (file .entry)) (now (transfer .entry)) (now (cheque .entry)) (now (taken .entry)) r ⌝ }
 {
-    if !charset::is_page(page) {
+    let exists = charset::is_page(page);
+    if !exists {
         return refusal(7, 0, 0);
     }
     let found = examine(page, file, transfer, cheque);

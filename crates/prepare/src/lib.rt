@@ -76,7 +76,8 @@ pub fn prepare(
 ) -> Prepared
     ensures { λ r. ⌜ PreparedAs page (now (file .entry)) (now (transfer .entry)) (now (cheque .entry)) (now (out .entry)) (now (notes .entry)) r (now (out .exit)) (now (notes .exit)) ⌝ }
 {
-    if !charset::is_page(page) {
+    let exists = charset::is_page(page);
+    if !exists {
         return refusal(7, 0);
     }
     let found = judge::examine(page, file, transfer, cheque);

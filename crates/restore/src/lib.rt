@@ -135,7 +135,8 @@ pub fn restore(
 ) -> Restored
     ensures { λ r. ⌜ RestoredAs page (now (forwarded .entry)) (now (notes .entry)) (now (transfer .entry)) (now (cheque .entry)) (now (out .entry)) r (now (out .exit)) ⌝ }
 {
-    if !charset::is_page(page) {
+    let exists = charset::is_page(page);
+    if !exists {
         return Restored { number: 7, rec: 0 };
     }
     if out.len() < forwarded.len() {
