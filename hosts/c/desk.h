@@ -6,8 +6,8 @@
    country lists, any room and any page number may be handed in: every call ends with an answer or a numbered refusal, and
    a refused call changes no byte that it was lent.
 
-   The page says at which codes the office writes the four German characters. It belongs to the file, as the country lists
-   do: a file is restored on the page on which it was prepared. */
+   The page says at which codes the office writes the four German characters. Restore needs the page and the country lists
+   that prepare had; with others it may refuse the pair. So store the page with the forwarded file and its notes. */
 #ifndef DESK_H
 #define DESK_H
 
@@ -18,7 +18,8 @@
 extern "C" {
 #endif
 
-/* Code pages (docs/RULES.md, 3.1). Any other number is refused with 7. */
+/* Code pages (docs/RULES.md, 3.1): where the umlauts of A, O and U and the sharp s stand, which become A, O, U and S. Any
+   other number is refused with 7. */
 enum desk_page {
     DESK_DIN_66003 = 0,            /* hex 5B, 5C, 5D and 7E */
     DESK_ISO_8859_1 = 1            /* hex C4, D6, DC and DF */
@@ -65,7 +66,8 @@ enum desk_number {
     DESK_NO_SUCH_PAIR = 70         /* restore: no sound file yields this pair */
 };
 
-/* The judge's answer has grown (at): a host that was built with an older header is to be compiled anew. */
+/* The judge's answer has grown (at), and three calls have got the page as their first argument: a host that was built with
+   an older header is to be compiled anew. */
 typedef struct { uint64_t number, record, at, payments, euros, cents; } desk_judgement;
 typedef struct { uint64_t number, record, notes; } desk_prepared;
 typedef struct { uint64_t number, record; } desk_restored;

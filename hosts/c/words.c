@@ -12,6 +12,7 @@ static const struct { uint64_t number; const char *words; } refusals[] = {
     {3, "length digits wrong for the letter"},
     {4, "letter not allowed here"},
     {5, "bytes after Z"},
+    {7, "judge, prepare, restore: code page neither 0 nor 1"},
     {10, "Q3 is not 50400042"},
     {11, "Q4 is not eight zeros and two digits"},
     {12, "first line of Q5 blank"},
