@@ -20,7 +20,7 @@ fn readme() -> HashMap<u64, &'static str> {
 #[test]
 fn words() {
     let readme = readme();
-    assert_eq!(readme.len(), 35);
+    assert_eq!(readme.len(), 36);
     for number in 0..=100 {
         let words = readme.get(&number).copied().unwrap_or("no rule of the desk");
         assert_eq!(Refusal { number, record: 0, at: 0 }.words(), words, "{number}");
@@ -53,8 +53,9 @@ fn kinds() {
     }
     let every_rule_but_1 = (0..=6).chain(10..=16).chain(20..=35).chain(40..=42).chain([50]).filter(|&n| n != 1);
     assert!(every_rule_but_1.into_iter().all(|number| numbers.contains(&number)));
-    for number in (60..=100).chain([1]) {
-        assert_eq!(Refusal { number, record: 0, at: 0 }.kind(), None, "{number}");
+    for number in (60..=100).chain([1, 7]) {
+        let refusal = Refusal { number, record: 0, at: 0 };
+        assert_eq!((refusal.kind(), refusal.columns()), (None, None), "{number}");
         assert_eq!(c::kind(number), None, "{number}");
     }
 }
@@ -91,6 +92,7 @@ fn lines() {
         (0, 0, 0, "number 0: no rule of the desk"),
         (1, 0, 0, "rule 1 at record 0: file longer than 7,679,744 bytes (9,999 payments)"),
         (5, 4, 0, "rule 5 at record 4: bytes after Z"),
+        (7, 0, 0, "number 7: judge, prepare, restore: code page neither 0 nor 1"),
         (15, 0, 177, "rule 15 at record 0, Q9, column 178: Q9 is not N"),
         (15, 0, 0, "rule 15 at record 0: Q9 is not N"),
         (32, 212, 455, "rule 32 at record 212, T13, columns 456 to 458: T13 not EUR"),

@@ -3,9 +3,23 @@
 //! They need libhost.a, which is x86-64 code (`rt staticlib host` writes it; `-L target/staticlib` finds it). The library
 //! asks that no pointer be null and that what is lent for writing overlap nothing else that is lent: slices and borrows
 //! keep both. Any bytes, any country lists and any room may be lent. Every call ends with an answer or a numbered refusal,
-//! and a refused call changes no byte that it was lent. Text is read by the DIN 66003 character table.
+//! and a refused call changes no byte that it was lent.
+//!
+//! Restore needs the page and the country lists that prepare had; with others it may refuse the pair. So store the page
+//! with the forwarded file and its notes.
 
 use std::{error, fmt, ops::Range};
+
+/// The code page: where the office writes the four German characters Ä, Ö, Ü and ß, which become A, O, U and S. On the one
+/// page the codes of the other become spaces.
+#[derive(Clone, Copy, Debug, PartialEq, Eq)]
+#[repr(u32)]
+pub enum Page {
+    /// Hex 5B, 5C, 5D and 7E.
+    Din66003 = 0,
+    /// Hex C4, D6, DC and DF.
+    Iso8859_1 = 1,
+}
 
 /// Country lists: two bytes a country; a lone last byte is ignored.
 #[derive(Clone, Copy, Debug)]
@@ -61,7 +75,7 @@ pub enum Field {
     T24,
 }
 
-/// Judges a file without taken numbers: record × 100 + number; 0 for a sound file.
+/// Judges a file on page 0 (DIN 66003) without taken numbers: record × 100 + number; 0 for a sound file.
 pub fn judge_code(file: &[u8], lists: Lists) -> u64 {
     let Lists { transfer, cheque } = lists;
     // SAFETY: each pointer and count is one slice's.
@@ -72,11 +86,12 @@ pub fn judge_code(file: &[u8], lists: Lists) -> u64 {
 
 /// Judges a file, also by the taken file numbers: 50, at record 0, comes after every other rule. A file's number is its Q4,
 /// Q6 and Q7 as one number (docs/RULES.md, 5.6).
-pub fn judge(file: &[u8], lists: Lists, taken: &[u64]) -> Result<Judgement, Refusal> {
+pub fn judge(page: Page, file: &[u8], lists: Lists, taken: &[u64]) -> Result<Judgement, Refusal> {
     let Lists { transfer, cheque } = lists;
     // SAFETY: each pointer and count is one slice's.
     let judged = unsafe {
         c::desk_judge_full(
+            page as u32,
             file.as_ptr(),
             file.len(),
             transfer.as_ptr(),
@@ -94,11 +109,18 @@ pub fn judge(file: &[u8], lists: Lists, taken: &[u64]) -> Result<Judgement, Refu
 /// Prepares a file for forwarding, and answers how many notes there are. `out` then begins with the forwarded file, and
 /// `notes` with a note for each changed character, by rising place; the rest of both keeps its values. Soundness is asked
 /// first, then 60, then 61.
-pub fn prepare(file: &[u8], lists: Lists, out: &mut [u8], notes: &mut [u32]) -> Result<usize, Refusal> {
+pub fn prepare(
+    page: Page,
+    file: &[u8],
+    lists: Lists,
+    out: &mut [u8],
+    notes: &mut [u32],
+) -> Result<usize, Refusal> {
     let Lists { transfer, cheque } = lists;
     // SAFETY: each pointer and count is one slice's; out and notes are borrowed for writing, so they overlap nothing.
     let prepared = unsafe {
         c::desk_prepare(
+            page as u32,
             file.as_ptr(),
             file.len(),
             transfer.as_ptr(),
@@ -117,11 +139,12 @@ pub fn prepare(file: &[u8], lists: Lists, out: &mut [u8], notes: &mut [u32]) -> 
 
 /// Restores the file that was prepared, from the forwarded file and all of its notes: `out` then begins with it, and the
 /// rest keeps its bytes. 60 is asked first, then 70.
-pub fn restore(forwarded: &[u8], notes: &[u32], lists: Lists, out: &mut [u8]) -> Result<(), Refusal> {
+pub fn restore(page: Page, forwarded: &[u8], notes: &[u32], lists: Lists, out: &mut [u8]) -> Result<(), Refusal> {
     let Lists { transfer, cheque } = lists;
     // SAFETY: each pointer and count is one slice's; out is borrowed for writing, so it overlaps nothing.
     let restored = unsafe {
         c::desk_restore(
+            page as u32,
             forwarded.as_ptr(),
             forwarded.len(),
             notes.as_ptr(),
@@ -157,6 +180,30 @@ pub fn place(file: &[u8], record: u64, field: Field) -> Option<Range<usize>> {
 pub fn columns_at(kind: char, offset: u64) -> Option<Columns> {
     let mut fields = FIELDS.into_iter().filter(|row| row.field.starts_with(kind));
     fields.find(|row| offset < row.last && offset + 1 >= row.first)
+}
+
+/// The page of a number that comes from outside. Where there is none it is refused as the calls in C refuse it: 7, at
+/// record 0.
+impl TryFrom<u32> for Page {
+    type Error = Refusal;
+
+    fn try_from(page: u32) -> Result<Page, Refusal> {
+        match page {
+            0 => Ok(Page::Din66003),
+            1 => Ok(Page::Iso8859_1),
+            _ => Err(Refusal { number: 7, record: 0, at: 0 }),
+        }
+    }
+}
+
+/// `page 1 (ISO 8859-1)`.
+impl fmt::Display for Page {
+    fn fmt(&self, f: &mut fmt::Formatter) -> fmt::Result {
+        match self {
+            Page::Din66003 => f.write_str("page 0 (DIN 66003)"),
+            Page::Iso8859_1 => f.write_str("page 1 (ISO 8859-1)"),
+        }
+    }
 }
 
 impl Field {
@@ -202,8 +249,8 @@ impl Refusal {
     }
 }
 
-/// In one line: `rule 15 at record 0, Q9, column 178: Q9 is not N`. A number that is no rule of a file (50 to 70) has no
-/// record there.
+/// In one line: `rule 15 at record 0, Q9, column 178: Q9 is not N`. A number that is no rule of a file (7, and 50 to 70)
+/// has no record there.
 impl fmt::Display for Refusal {
     fn fmt(&self, f: &mut fmt::Formatter) -> fmt::Result {
         let Refusal { number, record, .. } = self;
@@ -234,12 +281,13 @@ impl fmt::Display for Columns {
 impl error::Error for Refusal {}
 
 /// The refusals, in the words of README.md; 6 is the program's alone.
-const WORDS: [(u64, &str); 35] = [
+const WORDS: [(u64, &str); 36] = [
     (1, "file longer than 7,679,744 bytes (9,999 payments)"),
     (2, "file ends inside a record, or where one is due"),
     (3, "length digits wrong for the letter"),
     (4, "letter not allowed here"),
     (5, "bytes after Z"),
+    (7, "judge, prepare, restore: code page neither 0 nor 1"),
     (10, "Q3 is not 50400042"),
     (11, "Q4 is not eight zeros and two digits"),
     (12, "first line of Q5 blank"),
@@ -374,6 +422,7 @@ mod c {
         ) -> u64;
 
         pub fn desk_judge_full(
+            page: u32,
             file: *const u8,
             n: usize,
             transfer: *const u8,
@@ -385,6 +434,7 @@ mod c {
         ) -> Judged;
 
         pub fn desk_prepare(
+            page: u32,
             file: *const u8,
             n: usize,
             transfer: *const u8,
@@ -398,6 +448,7 @@ mod c {
         ) -> Prepared;
 
         pub fn desk_restore(
+            page: u32,
             forwarded: *const u8,
             n: usize,
             notes: *const u32,
