@@ -1,7 +1,11 @@
 /* A host: judges a file, prepares it, tells each change with its field and the characters before and after, shows that
    restore gives the file back, and writes the forwarded file and its notes.
 
-       example FILE [FORWARDED NOTES]
+       example [--page 0|1] FILE [FORWARDED NOTES]
+
+   The page says at which codes FILE has the four German characters: 0 is DIN 66003, 1 is ISO 8859-1. Where none is named
+   it is 1. It is told with a sound file: store it with the pair, for restore needs the page and the country lists that
+   prepare had. A word that begins with - is taken for an option; a file of such a name is ./-name.
 
    It writes over nothing, and nothing that fails leaves anything behind:
    1. FORWARDED and NOTES are two new files: what is there already is never replaced, FILE least of all.
@@ -44,6 +48,53 @@ static uint32_t notes[MOST];
 static bool wrong(const char *path, const char *why)
 {
     fprintf(stderr, "%s: %s\n", path, why);
+    return false;
+}
+
+/* The pages: the word that asks for each, and its name. */
+static const struct { const char *word, *name; } pages[] = {
+    [DESK_DIN_66003] = {"0", "page 0 (DIN 66003)"},
+    [DESK_ISO_8859_1] = {"1", "page 1 (ISO 8859-1)"},
+};
+
+/* What is asked for: the page, and by the other words the paths. */
+typedef struct {
+    uint32_t page;
+    int count;
+    char **words;
+} request;
+
+/* Takes --page and the page, where the words begin with them. */
+static bool take_page(request *asked)
+{
+    if (asked->count < 1 || strcmp(asked->words[0], "--page") != 0)
+        return true;
+    const char *word = asked->count > 1 ? asked->words[1] : NULL;
+    for (uint32_t page = 0; word && page < sizeof pages / sizeof pages[0]; page++)
+        if (strcmp(word, pages[page].word) == 0) {
+            *asked = (request){page, asked->count - 2, asked->words + 2};
+            return true;
+        }
+    fprintf(stderr, "%s%s: there is %s and %s\n", word ? "page " : "--page names no page", word ? word : "",
+            pages[DESK_DIN_66003].name, pages[DESK_ISO_8859_1].name);
+    return false;
+}
+
+/* Whether the words can be understood: one path or three, behind the page, if any. */
+static bool understand(request *asked)
+{
+    if (!take_page(asked))
+        return false;
+    for (int i = 0; i < asked->count; i++) {
+        const char *word = asked->words[i];
+        if (word[0] == '-') {
+            fprintf(stderr, "%s: no option in this place; a file of that name is ./%s\n", word, word);
+            return false;
+        }
+    }
+    if (asked->count == 1 || asked->count == 3)
+        return true;
+    fprintf(stderr, "usage: example [--page 0|1] FILE [FORWARDED NOTES]\n");
     return false;
 }
 
@@ -206,22 +257,22 @@ static bool refused(uint64_t number, uint64_t record, uint64_t at)
 
 /* Judges, prepares and restores the file in memory, and tells what it finds. Whether there is something to write: a
    sound file's forwarded file and so many notes, from which the very file was restored. */
-static bool examine(size_t n, uint64_t *count)
+static bool examine(uint32_t page, size_t n, uint64_t *count)
 {
     static const uint64_t none[1];
-    desk_judgement judged = desk_judge_full(file, n, LISTS, none, 0);
+    desk_judgement judged = desk_judge_full(page, file, n, LISTS, none, 0);
     if (judged.number)
         return refused(judged.number, judged.record, judged.at);
-    printf("sound: %" PRIu64 " payments, %" PRIu64 " euros and %" PRIu64 " cents\n", judged.payments, judged.euros,
-           judged.cents);
+    printf("sound on %s: %" PRIu64 " payments, %" PRIu64 " euros and %" PRIu64 " cents\n", pages[page].name,
+           judged.payments, judged.euros, judged.cents);
 
-    desk_prepared prepared = desk_prepare(file, n, LISTS, forwarded, sizeof forwarded, notes, MOST);
+    desk_prepared prepared = desk_prepare(page, file, n, LISTS, forwarded, sizeof forwarded, notes, MOST);
     if (prepared.number)
         return refused(prepared.number, prepared.record, 0);
     tell_changes(prepared.notes);
     *count = prepared.notes;
 
-    desk_restored back = desk_restore(forwarded, n, notes, prepared.notes, LISTS, restored, sizeof restored);
+    desk_restored back = desk_restore(page, forwarded, n, notes, prepared.notes, LISTS, restored, sizeof restored);
     bool the_very_file = back.number == 0 && memcmp(file, restored, n) == 0;
     puts(the_very_file ? "restored: the very file" : "not restored");
     return the_very_file;
@@ -229,25 +280,24 @@ static bool examine(size_t n, uint64_t *count)
 
 int main(int argc, char **argv)
 {
-    bool writes = argc == 4;
-    if (argc != 2 && !writes) {
-        fprintf(stderr, "usage: example FILE [FORWARDED NOTES]\n");
+    request asked = {DESK_ISO_8859_1, argc - 1, argv + 1};
+    if (!understand(&asked))
         return 2;
-    }
     signal(SIGPIPE, SIG_IGN); /* where nobody reads on, printing fails, and is told like every other failure */
 
-    const char *paths[PATHS] = {argv[1]};
+    bool writes = asked.count == 3;
+    const char *paths[PATHS] = {asked.words[0]};
     if (writes) {
-        paths[FORWARDED] = argv[2];
-        paths[NOTES] = argv[3];
-        paths[NEW_FORWARDED] = new_name(argv[2]);
-        paths[NEW_NOTES] = new_name(argv[3]);
+        paths[FORWARDED] = asked.words[1];
+        paths[NOTES] = asked.words[2];
+        paths[NEW_FORWARDED] = new_name(asked.words[1]);
+        paths[NEW_NOTES] = new_name(asked.words[2]);
     }
     size_t n = 0;
     uint64_t count = 0;
     if ((writes && !are_new(paths)) || !read_whole(paths[GIVEN], &n))
         return 2;
-    bool restorable = examine(n, &count);
+    bool restorable = examine(asked.page, n, &count);
     if (fflush(stdout) != 0 || ferror(stdout)) {
         fprintf(stderr, "standard output cannot be written\n");
         return 2;

@@ -1,7 +1,11 @@
 //! A host: judges a file, prepares it, tells each change with its field and the characters before and after, shows that
 //! restore gives the file back, and writes the forwarded file and its notes.
 //!
-//!     example FILE [FORWARDED NOTES]
+//!     example [--page 0|1] FILE [FORWARDED NOTES]
+//!
+//! The page says at which codes FILE has the four German characters: 0 is DIN 66003, 1 is ISO 8859-1. Where none is named
+//! it is 1. It is told with a sound file: store it with the pair, for restore needs the page and the country lists that
+//! prepare had. A word that begins with - is taken for an option; a file of such a name is ./-name.
 //!
 //! It writes over nothing, and nothing that fails leaves anything behind:
 //! 1. FORWARDED and NOTES are two new files: what is there already is never replaced, FILE least of all.
@@ -19,7 +23,7 @@
 #[allow(dead_code)] // not every call is made here
 mod desk;
 
-use desk::{Lists, Note, Refusal};
+use desk::{Judgement, Lists, Note, Page, Refusal};
 use std::ffi::{OsStr, OsString};
 use std::fs::{self, File, OpenOptions};
 use std::io::{self, BufWriter, ErrorKind, Read, Write};
@@ -42,12 +46,12 @@ const MOST: u64 = 7_679_744;
 type Failure = OsString;
 
 fn main() -> ExitCode {
-    let paths: Vec<PathBuf> = std::env::args_os().skip(1).map(PathBuf::from).collect();
-    let done = match &paths[..] {
-        [file] => run(file, None),
-        [file, forwarded, notes] => run(file, Some(Targets::new(forwarded, notes))),
-        _ => Err("usage: example FILE [FORWARDED NOTES]".into()),
-    };
+    let words: Vec<OsString> = std::env::args_os().skip(1).collect();
+    let done = understand(&words).and_then(|(page, paths)| match paths {
+        [file] => run(page, Path::new(file), None),
+        [file, forwarded, notes] => run(page, Path::new(file), Some(Targets::new(forwarded, notes))),
+        _ => Err("usage: example [--page 0|1] FILE [FORWARDED NOTES]".into()),
+    });
     match done {
         Ok(true) => ExitCode::SUCCESS,
         Ok(false) => ExitCode::from(1),
@@ -59,14 +63,41 @@ fn main() -> ExitCode {
     }
 }
 
+/// What is asked for: the page, and by the other words the paths.
+fn understand(words: &[OsString]) -> Result<(Page, &[OsString]), Failure> {
+    let (page, paths) = match words {
+        [option] if option == "--page" => return Err(no_page("--page names no page".into())),
+        [option, word, paths @ ..] if option == "--page" => (page_of(word)?, paths),
+        paths => (Page::Iso8859_1, paths),
+    };
+    match paths.iter().find(|word| word.as_bytes().starts_with(b"-")) {
+        Some(word) => Err(joined(&[word, &": no option in this place; a file of that name is ./", word])),
+        None => Ok((page, paths)),
+    }
+}
+
+/// The page for which a word asks.
+fn page_of(word: &OsStr) -> Result<Page, Failure> {
+    match word.to_str() {
+        Some("0") => Ok(Page::Din66003),
+        Some("1") => Ok(Page::Iso8859_1),
+        _ => Err(no_page(joined(&[&"page ", &word]))),
+    }
+}
+
+/// What is wrong with the page, and which there are.
+fn no_page(why: OsString) -> Failure {
+    joined(&[&why, &format!(": there is {} and {}", Page::Din66003, Page::Iso8859_1)])
+}
+
 /// The host's work; false where the file is refused.
-fn run(path: &Path, targets: Option<Targets>) -> Result<bool, Failure> {
+fn run(page: Page, path: &Path, targets: Option<Targets>) -> Result<bool, Failure> {
     if let Some(targets) = &targets {
         targets.are_new()?;
     }
     let file = read(path)?;
     let mut out = BufWriter::new(io::stdout());
-    let examined = examine(&file, &mut out).and_then(|outgoing| out.flush().map(|()| outgoing));
+    let examined = examine(page, &file, &mut out).and_then(|outgoing| out.flush().map(|()| outgoing));
     let outgoing = match examined {
         Ok(outgoing) if !at_start::output_was_closed() => outgoing,
         _ => return Err("standard output cannot be written".into()),
@@ -85,24 +116,24 @@ struct Outgoing {
 
 /// Judges, prepares and restores the file in memory, and tells what it finds. What goes on is there where the file is
 /// sound and the very file was restored.
-fn examine(file: &[u8], out: &mut impl Write) -> io::Result<Option<Outgoing>> {
-    match desk::judge(file, LISTS, &[]) {
-        Ok(sound) => {
-            writeln!(out, "sound: {} payments, {} euros and {} cents", sound.payments, sound.euros, sound.cents)?;
+fn examine(page: Page, file: &[u8], out: &mut impl Write) -> io::Result<Option<Outgoing>> {
+    match desk::judge(page, file, LISTS, &[]) {
+        Ok(Judgement { payments, euros, cents }) => {
+            writeln!(out, "sound on {page}: {payments} payments, {euros} euros and {cents} cents")?;
         }
         Err(refusal) => return refused(refusal, out),
     }
 
     let mut forwarded = vec![0; file.len()];
     let mut notes = vec![0; file.len()];
-    match desk::prepare(file, LISTS, &mut forwarded, &mut notes) {
+    match desk::prepare(page, file, LISTS, &mut forwarded, &mut notes) {
         Ok(count) => notes.truncate(count),
         Err(refusal) => return refused(refusal, out),
     }
     tell_changes(&forwarded, &notes, out)?;
 
     let mut restored = vec![0; file.len()];
-    let back = desk::restore(&forwarded, &notes, LISTS, &mut restored);
+    let back = desk::restore(page, &forwarded, &notes, LISTS, &mut restored);
     let the_very_file = back.is_ok() && restored == file;
     writeln!(out, "{}", if the_very_file { "restored: the very file" } else { "not restored" })?;
     Ok(the_very_file.then_some(Outgoing { forwarded, notes }))
@@ -144,11 +175,11 @@ struct Targets {
 }
 
 impl Targets {
-    fn new(forwarded: &Path, notes: &Path) -> Targets {
-        let new_name = |path: &Path| PathBuf::from(joined(&[&path, &".new"]));
+    fn new(forwarded: &OsStr, notes: &OsStr) -> Targets {
+        let new_name = |path: &OsStr| PathBuf::from(joined(&[&path, &".new"]));
         Targets {
-            forwarded: forwarded.to_owned(),
-            notes: notes.to_owned(),
+            forwarded: forwarded.into(),
+            notes: notes.into(),
             new_forwarded: new_name(forwarded),
             new_notes: new_name(notes),
         }
