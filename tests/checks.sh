@@ -44,18 +44,27 @@ to_closed() {
     "$@" >&-
 }
 
-# payments N: a sound file, the sample's first payment N times
+# payments N: a sound file, the sample's first payment N times. The shell reads none of its bytes: whether it keeps those
+# above 127 is a matter of its locale.
 payments() {
-    local payment
-    payment=$(tail -c +257 samples/sound.dtazv | head -c 768)
+    local payment=target/tests/payment
+    tail -c +257 samples/sound.dtazv | head -c 768 >$payment
     head -c 256 samples/sound.dtazv
-    for _ in $(seq "$1"); do printf %s "$payment"; done
+    printf "$payment%.0s\n" $(seq "$1") | xargs cat
     printf '0256Z%015d%015d%221s' $((120 * $1)) "$1" ''
 }
 
-# sample_with BYTE PLACE: the sound sample with that byte at that place, which counts from 0
+# sample_with TEXT PLACE: the sound sample with that text from that place on, which counts from 0. A byte above 127 is
+# written as printf's %b reads it, as '\xC4'.
 sample_with() {
+    local text=target/tests/text
+    printf %b "$1" >$text
     head -c "$2" samples/sound.dtazv
-    printf %s "$1"
-    tail -c +$(($2 + 2)) samples/sound.dtazv
+    cat $text
+    tail -c +$(($2 + $(wc -c <$text) + 1)) samples/sound.dtazv
+}
+
+# name_with BYTE: the sound sample whose name, the first line of Q5, is that byte and 34 spaces
+name_with() {
+    sample_with "$1$(printf %34s '')" 23
 }

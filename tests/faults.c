@@ -9,7 +9,7 @@
 #include <string.h>
 #include <unistd.h>
 
-desk_restored __real_desk_restore(const uint8_t *forwarded, size_t n, const uint32_t *notes, size_t notes_n,
+desk_restored __real_desk_restore(uint32_t page, const uint8_t *forwarded, size_t n, const uint32_t *notes, size_t notes_n,
                                   const uint8_t *transfer, size_t nt, const uint8_t *cheque, size_t nc,
                                   uint8_t *out, size_t out_n);
 int __real_rename(const char *from, const char *to);
@@ -20,11 +20,11 @@ static bool fault_is(const char *word)
     return fault && strcmp(fault, word) == 0;
 }
 
-desk_restored __wrap_desk_restore(const uint8_t *forwarded, size_t n, const uint32_t *notes, size_t notes_n,
+desk_restored __wrap_desk_restore(uint32_t page, const uint8_t *forwarded, size_t n, const uint32_t *notes, size_t notes_n,
                                   const uint8_t *transfer, size_t nt, const uint8_t *cheque, size_t nc,
                                   uint8_t *out, size_t out_n)
 {
-    desk_restored back = __real_desk_restore(forwarded, n, notes, notes_n, transfer, nt, cheque, nc, out, out_n);
+    desk_restored back = __real_desk_restore(page, forwarded, n, notes, notes_n, transfer, nt, cheque, nc, out, out_n);
     if (fault_is("restore"))
         out[n - 1] ^= 1;
     return back;
