@@ -1,7 +1,9 @@
-// Both sides of each edge of document 01, and where each rule points (document 02, A1), run: a line for each.
+// Both sides of each edge of document 01, where each rule points (document 02, A1), and the code pages (A2), run: a line
+// for each. Where no page is told it is page 0.
 use libc::STDOUT_FILENO;
 
 mod files;
+mod pages;
 mod places;
 
 const LIST: [u8; 2] = *b"US";
@@ -50,9 +52,13 @@ fn tell_whether(edge: &[u8], holds: bool) {
     say(b": no\n");
 }
 
-fn judge(edge: &[u8], file: &[u8], taken: &[u64]) {
-    let v = judge::judge(0, file, &LIST, &LIST, taken);
+fn judge_on(page: u32, edge: &[u8], file: &[u8], taken: &[u64]) {
+    let v = judge::judge(page, file, &LIST, &LIST, taken);
     tell_place(edge, v.number, v.rec, v.at);
+}
+
+fn judge(edge: &[u8], file: &[u8], taken: &[u64]) {
+    judge_on(0, edge, file, taken);
 }
 
 // The same of a file that was changed at a byte, which is told too.
@@ -110,8 +116,8 @@ fn patterned(notes: &[u32]) -> bool {
 }
 
 // A call that is refused: output and note places come with a pattern, and the output's is given besides.
-fn refused(edge: &[u8], file: &[u8], out: &mut [u8], pattern: &[u8], notes: &mut [u32]) {
-    let p = prepare::prepare(0, file, &LIST, &LIST, out, notes);
+fn refused(page: u32, edge: &[u8], file: &[u8], out: &mut [u8], pattern: &[u8], notes: &mut [u32]) {
+    let p = prepare::prepare(page, file, &LIST, &LIST, out, notes);
     tell(edge, p.number, p.rec);
     tell_whether(b"  output untouched", fields::same(out, pattern));
     tell_whether(b"  note places untouched", patterned(notes));
@@ -146,6 +152,7 @@ fn exact(file: &[u8]) {
 // A file of 2048 bytes with two changes, and one that is not sound.
 fn short(file: &[u8], blank: &[u8]) {
     refused(
+        0,
         b"output room one short",
         file,
         &mut [PATTERN; 2047],
@@ -153,6 +160,7 @@ fn short(file: &[u8], blank: &[u8]) {
         &mut [NOTE_PATTERN; 2],
     );
     refused(
+        0,
         b"note room one short",
         file,
         &mut [PATTERN; 2048],
@@ -160,6 +168,7 @@ fn short(file: &[u8], blank: &[u8]) {
         &mut [NOTE_PATTERN; 1],
     );
     refused(
+        0,
         b"payee of 35 equals signs",
         blank,
         &mut [PATTERN; 2048],
@@ -234,4 +243,5 @@ fn main() {
     prepare_edges();
     restore_edges();
     places::edges();
+    pages::edges();
 }

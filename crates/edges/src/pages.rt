@@ -1,0 +1,142 @@
+// The code pages (document 02, A2): what the German characters become on each, files that one page alone finds sound, and
+// page numbers that there are not.
+
+// The second byte of the second payee, a place of text.
+const PLACE: usize = 1235;
+
+// What a byte in the place of text is forwarded as on a page; 0 where its note is another, or the file does not come back.
+fn forwarded(page: u32, byte: u8) -> u8 {
+    let mut file = crate::files::example(b"ANNA BEISPIEL", b"M STUDIO");
+    crate::files::put(&mut file, PLACE, &[byte]);
+    let mut out = [crate::PATTERN; 2048];
+    let mut notes = [crate::NOTE_PATTERN; 1];
+    let p = prepare::prepare(
+        page,
+        &file,
+        &crate::LIST,
+        &crate::LIST,
+        &mut out,
+        &mut notes,
+    );
+    let mut back = [crate::PATTERN; 2048];
+    let r = restore::restore(page, &out, &notes, &crate::LIST, &crate::LIST, &mut back);
+    let note = notes[0];
+    let noted = (note / 256 == PLACE as u32) & (note % 256 == byte as u32);
+    if noted & (p.notes == 1) & (r.number == 0) & fields::same(&back, &file) {
+        return out[PLACE];
+    }
+    0
+}
+
+// A line: what the byte becomes on both pages.
+fn becomes(name: &[u8], byte: u8) {
+    crate::say(name);
+    crate::say(b": page 0 '");
+    crate::say(&[forwarded(0, byte)]);
+    crate::say(b"', page 1 '");
+    crate::say(&[forwarded(1, byte)]);
+    crate::say(b"'\n");
+}
+
+fn german_characters() {
+    becomes(b"hex 5B, A umlaut on page 0", 0x5B);
+    becomes(b"hex 5C, O umlaut on page 0", 0x5C);
+    becomes(b"hex 5D, U umlaut on page 0", 0x5D);
+    becomes(b"hex 7E, sharp s on page 0", 0x7E);
+    becomes(b"hex C4, A umlaut on page 1", 0xC4);
+    becomes(b"hex D6, O umlaut on page 1", 0xD6);
+    becomes(b"hex DC, U umlaut on page 1", 0xDC);
+    becomes(b"hex DF, sharp s on page 1", 0xDF);
+    becomes(b"hex 7B, a umlaut on page 0", 0x7B);
+    becomes(b"hex 7C, o umlaut on page 0", 0x7C);
+    becomes(b"hex 7D, u umlaut on page 0", 0x7D);
+    becomes(b"hex E4, a umlaut on page 1", 0xE4);
+    becomes(b"hex F6, o umlaut on page 1", 0xF6);
+    becomes(b"hex FC, u umlaut on page 1", 0xFC);
+}
+
+// Judges the example on both pages, with a text written over it and then the byte, an A umlaut on one of them, at a place.
+fn on_both(rule: &[u8], byte: u8, at: usize, text: &[u8], place: usize) {
+    let mut file = crate::files::example(b"ANNA BEISPIEL", b"M&M STUDIO");
+    crate::files::put(&mut file, at, text);
+    crate::files::put(&mut file, place, &[byte]);
+    crate::say_number(rule, byte as u64);
+    crate::judge_on(0, b", page 0", &file, &[]);
+    crate::say_number(rule, byte as u64);
+    crate::judge_on(1, b", page 1", &file, &[]);
+}
+
+// Sound on one page alone: the byte is all that the ordering party's name has, a letter of the BIC, all of the bank's name,
+// all of the payee's, and the first character of the account.
+fn one_page_alone(byte: u8) {
+    on_both(b"rule 12, byte ", byte, 23, &[32u8; 35], 23);
+    on_both(b"rule 26, byte ", byte, 309, b"ABCDDEFF", 316);
+    on_both(b"rule 27, byte ", byte, 309, b"           US ", 323);
+    on_both(b"rule 29, byte ", byte, 466, &[32u8; 35], 466);
+    on_both(b"rule 31, byte ", byte, 676, b"/1234567", 677);
+}
+
+fn judge_on(page: u32, edge: &[u8], file: &[u8], taken: &[u64]) {
+    crate::say_number(b"page ", page as u64);
+    crate::judge_on(page, edge, file, taken);
+}
+
+// Prepare, with room for a byte less than the file has, and for no note.
+fn prepare_on(page: u32, file: &[u8]) {
+    crate::say_number(b"page ", page as u64);
+    crate::refused(
+        page,
+        b", output room one short",
+        file,
+        &mut [crate::PATTERN; 2047],
+        &[crate::PATTERN; 2047],
+        &mut [],
+    );
+}
+
+// Restore, with a note about a place of Z, which no file yields.
+fn restore_on(page: u32, edge: &[u8], file: &[u8], out: &mut [u8], pattern: &[u8]) {
+    let r = restore::restore(page, file, &[460838], &crate::LIST, &crate::LIST, out);
+    crate::say_number(b"page ", page as u64);
+    crate::tell(edge, r.number, r.rec);
+    crate::tell_whether(b"  output untouched", fields::same(out, pattern));
+}
+
+// A page that does not exist: 7, before 50 and 2, before 60 and before 70.
+fn no_such_page(page: u32, file: &[u8]) {
+    judge_on(page, b", a sound file", file, &[]);
+    judge_on(page, b", a taken number", file, &[1224022907]);
+    judge_on(page, b", an empty file", &[], &[]);
+    prepare_on(page, file);
+    restore_on(
+        page,
+        b", restore, room one short",
+        file,
+        &mut [crate::PATTERN; 2047],
+        &[crate::PATTERN; 2047],
+    );
+    restore_on(
+        page,
+        b", restore, no such pair",
+        file,
+        &mut [crate::PATTERN; 2048],
+        &[crate::PATTERN; 2048],
+    );
+}
+
+// A byte more than 9,999 payments have: 1, but 7 comes before it.
+fn too_long(file: &[u8; 7679745]) {
+    judge_on(1, b", one byte too long", file, &[]);
+    judge_on(2, b", one byte too long", file, &[]);
+}
+
+pub fn edges() {
+    let file = crate::files::example(b"ANNA BEISPIEL", b"M&M STUDIO");
+    german_characters();
+    one_page_alone(0x5B);
+    one_page_alone(0xC4);
+    no_such_page(2, &file);
+    no_such_page(255, &file);
+    no_such_page(4294967295, &file);
+    too_long(&[48u8; 7679745]);
+}
