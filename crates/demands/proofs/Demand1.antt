@@ -73,15 +73,15 @@ module _ {own : Type 0} (n : ℕ) where
   not-7 other (inr (inr o)) e = other o e
 
 module _ (page : ℕ) (file transfer cheque taken : List ℕ) where
-  abbrev Judges : Verdict → Type 0
-  Judges v = Usual (v .number ≡ 50) (v .number)
+  abbrev JudgesTo : Verdict → Type 0
+  JudgesTo v = Usual (v .number ≡ 50) (v .number)
 
-  judges : Judges (orTaken (verdictOf page file transfer cheque) file taken)
+  judges : JudgesTo (orTaken (verdictOf page file transfer cheque) file taken)
   judges =
       let v = verdictOf page file transfer cheque in
-      let plain : Judges v = wide (v .number) (told page file transfer cheque) in
-      either Judges (eqb (v .number) 0) _ _
-      (either Judges (isTaken taken (fileNumber (slotAt file 0))) _ _ (inr (inr refl)) plain) plain
+      let plain : JudgesTo v = wide (v .number) (told page file transfer cheque) in
+      either JudgesTo (eqb (v .number) 0) _ _
+      (either JudgesTo (isTaken taken (fileNumber (slotAt file 0))) _ _ (inr (inr refl)) plain) plain
 
   judged-7 : orTaken (verdictOf page file transfer cheque) file taken .number ≡ 7 → ⊥
   judged-7 = not-7 _ (λ o e. omega (arith, o, e)) judges
@@ -101,18 +101,18 @@ judge-page page file transfer cheque taken answer promise =
     (seven page number x (refused 7 0 0) answer promise refl (judged-7 page file transfer cheque taken), one-answer page number x (refused 7 0 0) answer promise)
 
 module _ (page : ℕ) (file transfer cheque out notes : List ℕ) where
-  abbrev Prepares : Prepared → Type 0
-  Prepares a = Usual ((a .number ≡ 60) ⊎ (a .number ≡ 61)) (a .number)
+  abbrev PreparesTo : Prepared → Type 0
+  PreparesTo a = Usual ((a .number ≡ 60) ⊎ (a .number ≡ 61)) (a .number)
 
   abbrev prepared : Prepared
   prepared = prepareBy (verdictOf page file transfer cheque) page file out notes
 
-  prepares : Prepares prepared
+  prepares : PreparesTo prepared
   unfolding sendOf
   prepares =
-      either Prepares (eqb (verdictOf page file transfer cheque .number) 0) _ _
-      (either Prepares (ltb (length out) (length file)) _ _ (inr (inr (inl refl)))
-      (either Prepares (ltb (length notes) (length (notesOf page file))) _ _ (inr (inr (inr refl))) (inl refl)))
+      either PreparesTo (eqb (verdictOf page file transfer cheque .number) 0) _ _
+      (either PreparesTo (ltb (length out) (length file)) _ _ (inr (inr (inl refl)))
+      (either PreparesTo (ltb (length notes) (length (notesOf page file))) _ _ (inr (inr (inr refl))) (inl refl)))
       (wide (verdictOf page file transfer cheque .number) (told page file transfer cheque))
 
   prepared-7 : prepared .number ≡ 7 → ⊥
@@ -129,16 +129,16 @@ prepare-numbers page file transfer cheque out notes out' notes' answer promise =
     (either (λ (a : Prepared). Usual ((a .number ≡ 7) ⊎ ((a .number ≡ 60) ⊎ (a .number ≡ 61))) (a .number)) (isPage page) _ _
     (with-7 _ (prepares page file transfer cheque out notes)) (inr (inr (inl refl))))
 
-abbrev Restores : Restored → Type 0
-Restores a = (a .number ≡ 0) ⊎ ((a .number ≡ 7) ⊎ ((a .number ≡ 60) ⊎ (a .number ≡ 70)))
+abbrev RestoresTo : Restored → Type 0
+RestoresTo a = (a .number ≡ 0) ⊎ ((a .number ≡ 7) ⊎ ((a .number ≡ 60) ⊎ (a .number ≡ 70)))
 
 pub restore-numbers : RestoreNumbers
 unfolding restoreOf
 restore-numbers page sent notes transfer cheque out out' answer promise =
     rw (promise .answer-is)
-    (either Restores (isPage page) _ _
-    (either Restores (ltb (length out) (length sent)) _ _ (inr (inr (inl refl)))
-    (either Restores (isYielded page sent notes transfer cheque) _ _ (inl refl) (inr (inr (inr refl)))))
+    (either RestoresTo (isPage page) _ _
+    (either RestoresTo (ltb (length out) (length sent)) _ _ (inr (inr (inl refl)))
+    (either RestoresTo (isYielded page sent notes transfer cheque) _ _ (inl refl) (inr (inr (inr refl)))))
     (inr (inl refl)))
 
 pub prepare-keeps : PrepareKeeps

@@ -2,12 +2,12 @@
 use Prim.Native.Nat.{ℕ}
 use mathlib.Core.Path.{_≡_, refl, sym, ap, _∙_}
 use mathlib.Core.Bool.{Bool, true, false, _||_, cond, false≢true}
-use mathlib.Core.Logic.{_↔_, inl, inr}
+use mathlib.Core.Logic.{inl, inr}
 use borrow.Author.Tests.{eqb-true}
 use lib.Dec.{eqb}
 use Rattle.laws.specs.Choice.{on, off}
 use Rattle.charset.specs.Table.{isPage, rep-rep}
-use Rattle.demands.specs.Page.{Page, TablesStay}
+use Rattle.demands.specs.Page.{Page, Seven, TablesStay}
 
 module _ (page : ℕ) where
   pub is-page : Page page → isPage page ≡ true
@@ -37,7 +37,7 @@ module _ (page : ℕ) where
     pub one-answer : (Page page → ⊥) → answer ≡ y
     one-answer n = e ∙ sym (off x (no-page n) refl)
 
-    pub seven : number y ≡ 7 → (number x ≡ 7 → ⊥) → (number answer ≡ 7) ↔ (Page page → ⊥)
+    pub seven : number y ≡ 7 → (number x ≡ 7 → ⊥) → Seven page (number answer)
     seven is other = (λ z p. other (sym (ap number (on-page p)) ∙ z), λ n. ap number (one-answer n) ∙ is)
 
 pub tables-stay : TablesStay

@@ -22,20 +22,24 @@ Page page = (page ≡ 0) ⊎ (page ≡ 1)
 abbrev pub TablesStay : Type 0
 TablesStay = (page : ℕ) → Page page → OwnReplacement (rep page)
 
--- 7 exactly where there is no such page, and then always the same answer
+-- 7 is answered exactly where there is no such page
+abbrev pub Seven : ℕ → ℕ → Type 0
+Seven page number = (number ≡ 7) ↔ (Page page → ⊥)
+
+-- and then always with the same answer
 abbrev pub JudgePage : Type 0
 JudgePage =
     (page : ℕ) (file transfer cheque taken : List ℕ) (answer : Verdict) → JudgedAs page file transfer cheque taken answer
-    → ((answer .number ≡ 7) ↔ (Page page → ⊥)) × ((Page page → ⊥) → answer ≡ refused 7 0 0)
+    → Seven page (answer .number) × ((Page page → ⊥) → answer ≡ refused 7 0 0)
 
 abbrev pub PreparePage : Type 0
 PreparePage =
     (page : ℕ) (file transfer cheque out notes out' notes' : List ℕ) (answer : Prepared)
     → PreparedAs page file transfer cheque out notes answer out' notes'
-    → ((answer .number ≡ 7) ↔ (Page page → ⊥)) × ((Page page → ⊥) → (answer ≡ notPrepared 7 0) × (out' ≡ out) × (notes' ≡ notes))
+    → Seven page (answer .number) × ((Page page → ⊥) → (answer ≡ notPrepared 7 0) × (out' ≡ out) × (notes' ≡ notes))
 
 abbrev pub RestorePage : Type 0
 RestorePage =
     (page : ℕ) (sent notes transfer cheque out out' : List ℕ) (answer : Restored)
     → RestoredAs page sent notes transfer cheque out answer out'
-    → ((answer .number ≡ 7) ↔ (Page page → ⊥)) × ((Page page → ⊥) → (answer ≡ record { number = 7; rec = 0 }) × (out' ≡ out))
+    → Seven page (answer .number) × ((Page page → ⊥) → (answer ≡ record { number = 7; rec = 0 }) × (out' ≡ out))
