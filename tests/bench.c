@@ -28,20 +28,21 @@ static size_t n, notes_n;
 static const uint64_t no_taken[1];
 static volatile uint64_t sink;
 
+enum { PAGE = 0 };                                          /* DIN 66003, as in all figures so far */
 #define LISTS (const uint8_t *)annex_ii, ANNEX_II_BYTES, (const uint8_t *)annex_i, ANNEX_I_BYTES
 
 static uint64_t call_once(int call, int side)
 {
     switch (call) {
     case JUDGE:
-        return side == DESK ? desk_judge_full(file, n, LISTS, no_taken, 0).number
-                            : plain_judge_full(file, n, LISTS, no_taken, 0).number;
+        return side == DESK ? desk_judge_full(PAGE, file, n, LISTS, no_taken, 0).number
+                            : plain_judge_full(PAGE, file, n, LISTS, no_taken, 0).number;
     case PREPARE:
-        return side == DESK ? desk_prepare(file, n, LISTS, out, n, notes_out, MOST_NOTES).number
-                            : plain_prepare(file, n, LISTS, out, n, notes_out, MOST_NOTES).number;
+        return side == DESK ? desk_prepare(PAGE, file, n, LISTS, out, n, notes_out, MOST_NOTES).number
+                            : plain_prepare(PAGE, file, n, LISTS, out, n, notes_out, MOST_NOTES).number;
     case RESTORE:
-        return side == DESK ? desk_restore(forwarded, n, notes, notes_n, LISTS, out, n).number
-                            : plain_restore(forwarded, n, notes, notes_n, LISTS, out, n).number;
+        return side == DESK ? desk_restore(PAGE, forwarded, n, notes, notes_n, LISTS, out, n).number
+                            : plain_restore(PAGE, forwarded, n, notes, notes_n, LISTS, out, n).number;
     default:                                                /* the walk over the structure, and no rule */
         return side == DESK ? desk_show(file, n, 1, 2).start : plain_show(file, n, 1, 2).start;
     }
@@ -68,7 +69,7 @@ static void make_file(size_t payments)
     }
     sample_z(file, payments);
     n = file_bytes(payments);
-    plain_prepared p = plain_prepare(file, n, LISTS, forwarded, n, notes, MOST_NOTES);
+    plain_prepared p = plain_prepare(PAGE, file, n, LISTS, forwarded, n, notes, MOST_NOTES);
     notes_n = p.notes;
     for (int call = 0; call < CALLS; call++)
         for (int side = 0; side < SIDES; side++)

@@ -1,6 +1,6 @@
-/* The second opinion of the comparison, written from document 01 and request A1 of document 02 alone, for plainness
-   and not for speed. The order is document 01's: records, character table, walk, rules, calls. Sentences of the papers
-   stand as comments beside what does them. */
+/* The second opinion of the comparison, written from document 01 and requests A1 and A2 of document 02 alone, for
+   plainness and not for speed. The order is document 01's: records, character table, walk, rules, calls. Sentences of
+   the papers stand as comments beside what does them. */
 #include "plain.h"
 
 #include <stdbool.h>
@@ -143,8 +143,42 @@ static bool is_capital(uint8_t byte) { return byte >= 'A' && byte <= 'Z'; }
 static bool is_small(uint8_t byte)   { return byte >= 'a' && byte <= 'z'; }
 static bool is_capital_or_digit(uint8_t byte) { return is_capital(byte) || is_digit(byte); }
 
-/* The whole table. A byte is changed when its replacement differs from it; nothing else says so. */
-static uint8_t replaced(uint8_t byte)
+/* The caller names the code page, 0 for DIN 66003, 1 for ISO 8859-1. */
+enum { DIN_66003 = 0, ISO_8859_1 = 1 };
+
+static bool page_exists(uint32_t page)
+{
+    return page == DIN_66003 || page == ISO_8859_1;
+}
+
+/* The German characters are read at their DIN 66003 codes: hex 5B becomes A, 5C O, 5D U, 7E S. Every other byte,
+   apostrophe and all bytes from 128 up among them, becomes a space. */
+static uint8_t by_din_66003(uint8_t byte)
+{
+    switch (byte) {
+    case 0x5B: return 'A';
+    case 0x5C: return 'O';
+    case 0x5D: return 'U';
+    case 0x7E: return 'S';
+    default:   return ' ';
+    }
+}
+
+/* ISO 8859-1: C4, D6, DC and DF for the four German characters. Under 1, hex 5B, 5C, 5D and 7E become spaces like any
+   unlisted byte, small umlauts among them. */
+static uint8_t by_iso_8859_1(uint8_t byte)
+{
+    switch (byte) {
+    case 0xC4: return 'A';
+    case 0xD6: return 'O';
+    case 0xDC: return 'U';
+    case 0xDF: return 'S';
+    default:   return ' ';
+    }
+}
+
+/* The whole table of a page. A byte is changed when its replacement differs from it; nothing else says so. */
+static uint8_t replaced(uint32_t page, uint8_t byte)
 {
     /* Unchanged: A-Z, a-z, 0-9, space and . , - / + % */
     if (is_capital(byte) || is_small(byte) || is_digit(byte))
@@ -155,14 +189,9 @@ static uint8_t replaced(uint8_t byte)
     /* & becomes +. $ becomes S. */
     case '&': return '+';
     case '$': return 'S';
-    /* German characters at their DIN 66003 codes: hex 5B becomes A, 5C O, 5D U, 7E S. */
-    case 0x5B: return 'A';
-    case 0x5C: return 'O';
-    case 0x5D: return 'U';
-    case 0x7E: return 'S';
-    /* Every other byte, apostrophe and all bytes from 128 up among them, becomes a space. */
-    default: return ' ';
     }
+    /* The rest is read by the page. */
+    return page == ISO_8859_1 ? by_iso_8859_1(byte) : by_din_66003(byte);
 }
 
 /* ---- Tests on a stretch of a record ---- */
@@ -177,18 +206,18 @@ static bool every(rec r, stretch s, bool (*test)(uint8_t))
 }
 
 /* Every rule about a text field reads the replaced characters: every one of them passes the test. */
-static bool every_replaced(rec r, stretch s, bool (*test)(uint8_t))
+static bool every_replaced(uint32_t page, rec r, stretch s, bool (*test)(uint8_t))
 {
     for (size_t offset = s.first; offset <= s.last; offset++)
-        if (!test(replaced(byte_of(r, offset))))
+        if (!test(replaced(page, byte_of(r, offset))))
             return false;
     return true;
 }
 
 /* "Blank" means all spaces after replacement. */
-static bool blank(rec r, stretch s)
+static bool blank(uint32_t page, rec r, stretch s)
 {
-    return every_replaced(r, s, is_space);
+    return every_replaced(page, r, s, is_space);
 }
 
 /* The stretch reads exactly as the given text, which has the width of the stretch. */
@@ -334,7 +363,7 @@ static bool is_date(rec r, stretch s)
     return month >= 1 && month <= 12 && day >= 1 && day <= days_of_month(year, month);
 }
 
-static finding q_rules(rec q)
+static finding q_rules(uint32_t page, rec q)
 {
     /* 10: Q3 is not 50400042 */
     if (!reads(q, Q3, "50400042"))
@@ -343,7 +372,7 @@ static finding q_rules(rec q)
     if (!every(q, part(Q4, 0, 7), is_zero) || !every(q, part(Q4, 8, 9), is_digit))
         return broken(11, Q4);
     /* 12: first line of Q5 blank */
-    if (blank(q, line(Q5, 1)))
+    if (blank(page, q, line(Q5, 1)))
         return broken(12, Q5);
     /* 13: Q6 is no date YYMMDD (years 2000 to 2099) */
     if (!is_date(q, Q6))
@@ -376,12 +405,13 @@ static bool is_transfer(rec t) { return reads(t, T22, "00"); }
 static bool is_cheque(rec t)   { return reads(t, T22, "20") || reads(t, T22, "22"); }
 
 /* BIC shape: four capitals, two capitals, two capitals or digits, then three spaces or three capitals or digits. */
-static bool has_bic_shape(rec t)
+static bool has_bic_shape(uint32_t page, rec t)
 {
-    return every_replaced(t, part(T8, 0, 3), is_capital)
-        && every_replaced(t, part(T8, 4, 5), is_capital)
-        && every_replaced(t, part(T8, 6, 7), is_capital_or_digit)
-        && (every_replaced(t, part(T8, 8, 10), is_space) || every_replaced(t, part(T8, 8, 10), is_capital_or_digit));
+    return every_replaced(page, t, part(T8, 0, 3), is_capital)
+        && every_replaced(page, t, part(T8, 4, 5), is_capital)
+        && every_replaced(page, t, part(T8, 6, 7), is_capital_or_digit)
+        && (every_replaced(page, t, part(T8, 8, 10), is_space)
+            || every_replaced(page, t, part(T8, 8, 10), is_capital_or_digit));
 }
 
 /* Two bytes a country, a lone last byte ignored, any content allowed. */
@@ -401,17 +431,17 @@ static bool listed_and_space(rec t, stretch s, lent list)
 
 /* T9a for a transfer: with a BIC shape in T8, three spaces or two capitals and a space; without it, a country of the
    transfer list and a space. */
-static bool transfer_t9a_right(rec t, lent transfer)
+static bool transfer_t9a_right(uint32_t page, rec t, lent transfer)
 {
-    if (!has_bic_shape(t))
+    if (!has_bic_shape(page, t))
         return listed_and_space(t, T9a, transfer);
     return every(t, T9a, is_space) || (every(t, part(T9a, 0, 1), is_capital) && is_space(byte_of(t, T9a.last)));
 }
 
 /* T12 begins with / and a non-space (T12 is a text field: the replaced characters are read). */
-static bool begins_with_slash_and_non_space(rec t, stretch s)
+static bool begins_with_slash_and_non_space(uint32_t page, rec t, stretch s)
 {
-    return replaced(byte_of(t, s.first)) == '/' && !is_space(replaced(byte_of(t, s.first + 1)));
+    return replaced(page, byte_of(t, s.first)) == '/' && !is_space(replaced(page, byte_of(t, s.first + 1)));
 }
 
 static finding t_rules_20_to_24(rec t, rec record_1)
@@ -448,28 +478,28 @@ static finding t_rules_20_to_24(rec t, rec record_1)
     return NOTHING;
 }
 
-static finding t_rules_25_to_29(rec t, country_lists lists)
+static finding t_rules_25_to_29(uint32_t page, rec t, country_lists lists)
 {
     /* 25: cheque: T8 or T9b not blank, or T9a not spaces */
-    if (is_cheque(t) && !blank(t, T8))
+    if (is_cheque(t) && !blank(page, t, T8))
         return broken(25, T8);
     if (is_cheque(t) && !every(t, T9a, is_space))
         return broken(25, T9a);
-    if (is_cheque(t) && !blank(t, T9b))
+    if (is_cheque(t) && !blank(page, t, T9b))
         return broken(25, T9b);
     /* 26: transfer: T9a wrong */
-    if (is_transfer(t) && !transfer_t9a_right(t, lists.transfer))
+    if (is_transfer(t) && !transfer_t9a_right(page, t, lists.transfer))
         return broken(26, T9a);
     /* 27: transfer: T8 has no BIC shape and T9b is blank. Rules 27 and 29 point to T9b and T10b. */
-    if (is_transfer(t) && !has_bic_shape(t) && blank(t, T9b))
+    if (is_transfer(t) && !has_bic_shape(page, t) && blank(page, t, T9b))
         return broken(27, T9b);
     /* 28: T10a not a listed country (transfer list or cheque list, by T22) and a space */
     if (!listed_and_space(t, T10a, is_cheque(t) ? lists.cheque : lists.transfer))
         return broken(28, T10a);
     /* 29: first line of T10b blank; for a cheque, also line 3 or line 4 blank */
-    if (blank(t, line(T10b, 1)))
+    if (blank(page, t, line(T10b, 1)))
         return broken(29, T10b);
-    if (is_cheque(t) && (blank(t, line(T10b, 3)) || blank(t, line(T10b, 4))))
+    if (is_cheque(t) && (blank(page, t, line(T10b, 3)) || blank(page, t, line(T10b, 4))))
         return broken(29, T10b);
     return NOTHING;
 }
@@ -491,15 +521,15 @@ static stretch field_of_33(rec t)
     return T14b;
 }
 
-static finding t_rules_30_to_33(rec t)
+static finding t_rules_30_to_33(uint32_t page, rec t)
 {
     /* 30: T11 not all spaces */
     if (!every(t, T11, is_space))
         return broken(30, T11);
     /* 31: transfer: T12 does not begin with / and a non-space; cheque: T12 not blank */
-    if (is_transfer(t) && !begins_with_slash_and_non_space(t, T12))
+    if (is_transfer(t) && !begins_with_slash_and_non_space(page, t, T12))
         return broken(31, T12);
-    if (is_cheque(t) && !blank(t, T12))
+    if (is_cheque(t) && !blank(page, t, T12))
         return broken(31, T12);
     /* 32: T13 not EUR */
     if (!reads(t, T13, "EUR"))
@@ -535,13 +565,13 @@ static finding t_rules_34_and_35(rec t)
 }
 
 /* In rising rule number within a record. */
-static finding t_rules(rec t, rec record_1, country_lists lists)
+static finding t_rules(uint32_t page, rec t, rec record_1, country_lists lists)
 {
     finding found = t_rules_20_to_24(t, record_1);
     if (found.number == 0)
-        found = t_rules_25_to_29(t, lists);
+        found = t_rules_25_to_29(page, t, lists);
     if (found.number == 0)
-        found = t_rules_30_to_33(t);
+        found = t_rules_30_to_33(page, t);
     if (found.number == 0)
         found = t_rules_34_and_35(t);
     return found;
@@ -576,13 +606,13 @@ static plain_judgement refused_by(finding found, uint64_t record)
 }
 
 /* Content, record by record. The first broken rule ends the judgement there. */
-static plain_judgement content(lent file, uint64_t payments, country_lists lists)
+static plain_judgement content(uint32_t page, lent file, uint64_t payments, country_lists lists)
 {
-    finding found = q_rules(numbered(file, 0));
+    finding found = q_rules(page, numbered(file, 0));
     if (found.number != 0)
         return refused_by(found, 0);
     for (uint64_t record = 1; record <= payments; record++) {
-        found = t_rules(numbered(file, record), numbered(file, 1), lists);
+        found = t_rules(page, numbered(file, record), numbered(file, 1), lists);
         if (found.number != 0)
             return refused_by(found, record);
     }
@@ -597,12 +627,12 @@ static plain_judgement content(lent file, uint64_t payments, country_lists lists
 }
 
 /* 0 means sound: none of rules 1 to 5 and 10 to 42 is broken. Structure is walked first over the whole file. */
-static plain_judgement soundness(lent file, country_lists lists)
+static plain_judgement soundness(uint32_t page, lent file, country_lists lists)
 {
     plain_judgement walked = walk(file);
     if (walked.number != 0)
         return walked;
-    return content(file, walked.payments, lists);
+    return content(page, file, walked.payments, lists);
 }
 
 static country_lists lists_of(const uint8_t *transfer, size_t nt, const uint8_t *cheque, size_t nc)
@@ -627,22 +657,26 @@ static bool is_taken(uint64_t number, const uint64_t *taken, size_t taken_n)
     return false;
 }
 
-plain_judgement plain_judge_full(const uint8_t *file, size_t n,
+plain_judgement plain_judge_full(uint32_t page, const uint8_t *file, size_t n,
                                const uint8_t *transfer, size_t nt, const uint8_t *cheque, size_t nc,
                                const uint64_t *taken, size_t taken_n)
 {
     lent f = {file, n};
-    plain_judgement judgement = soundness(f, lists_of(transfer, nt, cheque, nc));
+    /* Any other page number is 7, record and offset 0, before every other number. */
+    if (!page_exists(page))
+        return refused(7, 0);
+    plain_judgement judgement = soundness(page, f, lists_of(transfer, nt, cheque, nc));
     /* Rule 50 belongs to the judge alone and comes after all others. For 50, the record is 0. */
     if (judgement.number == 0 && is_taken(file_number(f), taken, taken_n))
         return refused(50, 0);
     return judgement;
 }
 
+/* The C call stays on page 0. */
 uint64_t plain_judge(const uint8_t *file, size_t n,
                     const uint8_t *transfer, size_t nt, const uint8_t *cheque, size_t nc)
 {
-    plain_judgement judgement = plain_judge_full(file, n, transfer, nt, cheque, nc, NULL, 0);
+    plain_judgement judgement = plain_judge_full(DIN_66003, file, n, transfer, nt, cheque, nc, NULL, 0);
     return judgement.record * 100 + judgement.number;
 }
 
@@ -651,13 +685,13 @@ uint64_t plain_judge(const uint8_t *file, size_t n,
 /* Each text field is replaced within its own stretch of the output. A note is place in the file * 256 + original byte.
    count is the number of changes before this field; the answer is the number after it. What has no room is counted
    and not written. */
-static size_t change_field(rec r, stretch s, room out, note_room notes, size_t count)
+static size_t change_field(uint32_t page, rec r, stretch s, room out, note_room notes, size_t count)
 {
     for (size_t offset = s.first; offset <= s.last; offset++) {
         uint8_t byte = byte_of(r, offset);
-        if (replaced(byte) != byte) {
+        if (replaced(page, byte) != byte) {
             size_t place = r.start + offset;
-            put(out, place, replaced(byte));
+            put(out, place, replaced(page, byte));
             put_note(notes, count, (uint32_t)(place * 256 + byte));
             count++;
         }
@@ -666,14 +700,14 @@ static size_t change_field(rec r, stretch s, room out, note_room notes, size_t c
 }
 
 /* Goes over all text fields of a sound file and answers the number of changes; with no room it only counts. */
-static size_t change_file(lent file, uint64_t payments, room out, note_room notes)
+static size_t change_file(uint32_t page, lent file, uint64_t payments, room out, note_room notes)
 {
     size_t count = 0;
     for (uint64_t record = 0; record <= payments; record++) {
         rec r = numbered(file, record);
         for (size_t i = 0; i < TEXT_FIELDS; i++)
             if (TEXT_FIELD[i].letter == letter_of(r))
-                count = change_field(r, *TEXT_FIELD[i].place, out, notes, count);
+                count = change_field(page, r, *TEXT_FIELD[i].place, out, notes, count);
     }
     return count;
 }
@@ -685,28 +719,31 @@ static void copy(lent from, room to)
 }
 
 /* Reads soundness, then 60, then 61, each only in that case; record 0 for both and for success. */
-static plain_prepared prepare(lent file, country_lists lists, room out, note_room notes)
+static plain_prepared prepare(uint32_t page, lent file, country_lists lists, room out, note_room notes)
 {
-    plain_judgement judgement = soundness(file, lists);
+    /* Any other page number is 7, before every other number. */
+    if (!page_exists(page))
+        return (plain_prepared){.number = 7};
+    plain_judgement judgement = soundness(page, file, lists);
     if (judgement.number != 0)
         return (plain_prepared){.number = judgement.number, .record = judgement.record};
     /* 60: output room shorter than the file */
     if (out.n < file.n)
         return (plain_prepared){.number = 60};
     /* 61: more changes than note places lent */
-    size_t changes = change_file(file, judgement.payments, (room){NULL, 0}, (note_room){NULL, 0});
+    size_t changes = change_file(page, file, judgement.payments, (room){NULL, 0}, (note_room){NULL, 0});
     if (changes > notes.n)
         return (plain_prepared){.number = 61};
     copy(file, out);
-    change_file(file, judgement.payments, out, notes);
+    change_file(page, file, judgement.payments, out, notes);
     return (plain_prepared){.number = 0, .record = 0, .notes = changes};
 }
 
-plain_prepared plain_prepare(const uint8_t *file, size_t n,
+plain_prepared plain_prepare(uint32_t page, const uint8_t *file, size_t n,
                            const uint8_t *transfer, size_t nt, const uint8_t *cheque, size_t nc,
                            uint8_t *out, size_t out_n, uint32_t *notes, size_t notes_n)
 {
-    return prepare((lent){file, n}, lists_of(transfer, nt, cheque, nc),
+    return prepare(page, (lent){file, n}, lists_of(transfer, nt, cheque, nc),
                    (room){out, out_n}, (note_room){notes, notes_n});
 }
 
@@ -759,9 +796,9 @@ static size_t lesser(size_t a, size_t b)
 }
 
 /* The original, judged and prepared anew, yields this very pair, byte for byte and number by number. */
-static bool yields(lent original, country_lists lists, lent forwarded, lent_notes notes)
+static bool yields(uint32_t page, lent original, country_lists lists, lent forwarded, lent_notes notes)
 {
-    plain_prepared anew = prepare(original, lists, (room){own_forwarded, LONGEST_FILE},
+    plain_prepared anew = prepare(page, original, lists, (room){own_forwarded, LONGEST_FILE},
                                   (note_room){own_notes, MOST_NOTES});
     /* Refused is unsound, for its own memory has room enough. */
     if (anew.number != 0)
@@ -771,8 +808,11 @@ static bool yields(lent original, country_lists lists, lent forwarded, lent_note
 }
 
 /* 60 first, then 70, record 0 for both. */
-static plain_restored restore(lent forwarded, lent_notes notes, country_lists lists, room out)
+static plain_restored restore(uint32_t page, lent forwarded, lent_notes notes, country_lists lists, room out)
 {
+    /* Any other page number is 7, before every other number. */
+    if (!page_exists(page))
+        return (plain_restored){.number = 7};
     /* 60: output room shorter than the file */
     if (out.n < forwarded.n)
         return (plain_restored){.number = 60};
@@ -784,18 +824,18 @@ static plain_restored restore(lent forwarded, lent_notes notes, country_lists li
         return (plain_restored){.number = 70};
     /* and prepare changes the noted bytes alone, so the file with those put back is the only one to try. */
     lent original = {own_original, lesser(forwarded.n, LONGEST_FILE)};
-    if (!yields(original, lists, forwarded, notes))
+    if (!yields(page, original, lists, forwarded, notes))
         return (plain_restored){.number = 70};
     /* If 0, the output begins with the original, the rest of it keeps its bytes. */
     copy(original, out);
     return (plain_restored){.number = 0, .record = 0};
 }
 
-plain_restored plain_restore(const uint8_t *forwarded, size_t n, const uint32_t *notes, size_t notes_n,
+plain_restored plain_restore(uint32_t page, const uint8_t *forwarded, size_t n, const uint32_t *notes, size_t notes_n,
                            const uint8_t *transfer, size_t nt, const uint8_t *cheque, size_t nc,
                            uint8_t *out, size_t out_n)
 {
-    return restore((lent){forwarded, n}, (lent_notes){notes, notes_n}, lists_of(transfer, nt, cheque, nc),
+    return restore(page, (lent){forwarded, n}, (lent_notes){notes, notes_n}, lists_of(transfer, nt, cheque, nc),
                    (room){out, out_n});
 }
 

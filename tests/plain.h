@@ -1,9 +1,12 @@
-/* The second opinion of the comparison: the calls of document 01 in plain C, written from document 01 and request A1 of
-   document 02 alone, for plainness and not for speed.
+/* The second opinion of the comparison: the calls of document 01 in plain C, written from document 01 and requests A1
+   and A2 of document 02 alone, for plainness and not for speed.
 
    In every call a file or a list is lent as a pointer and its length; with length 0 the pointer is not followed.
    transfer and cheque are the country lists, two bytes a country, a lone last byte ignored. Memory lent for writing
    (out, notes) must not overlap anything else that is lent. A refused call writes nothing to it.
+
+   page is the code page: 0 for DIN 66003, 1 for ISO 8859-1. Any other is 7, before every other number; all other
+   numbers of the answer are then 0.
 
    Verdict 6 belongs to the program alone and is never answered here. */
 #ifndef PLAIN_H
@@ -17,26 +20,26 @@ typedef struct { uint64_t number, record, notes; } plain_prepared;
 typedef struct { uint64_t number, record; } plain_restored;
 typedef struct { uint64_t start, length; } plain_part;   /* length 0: no such field; then start is 0 too */
 
-/* Judge, as called without taken numbers: record * 100 + number. */
+/* Judge, as called without taken numbers, on page 0: record * 100 + number. */
 uint64_t plain_judge(const uint8_t *file, size_t n,
                     const uint8_t *transfer, size_t nt, const uint8_t *cheque, size_t nc);
 
 /* Judge: number, record, and at, the offset in the record of the lowest-placed field that breaks the rule; payments,
-   euros and cents are 0 if refused. For 50 the record is 0. at is 0 for rules 1 to 5, 50 and a sound file. */
-plain_judgement plain_judge_full(const uint8_t *file, size_t n,
+   euros and cents are 0 if refused. For 50 the record is 0. at is 0 for rules 1 to 5, 7, 50 and a sound file. */
+plain_judgement plain_judge_full(uint32_t page, const uint8_t *file, size_t n,
                                const uint8_t *transfer, size_t nt, const uint8_t *cheque, size_t nc,
                                const uint64_t *taken, size_t taken_n);
 
-/* Prepare: soundness, then 60, then 61. An unsound file tells its record; 60, 61 and success have record 0.
+/* Prepare: 7, then soundness, then 60, then 61. An unsound file tells its record; 60, 61 and success have record 0.
    If 0, out begins with the forwarded file and notes begins with the notes; the rest of both is left as it was.
    The answer's notes is their number, 0 when refused. */
-plain_prepared plain_prepare(const uint8_t *file, size_t n,
+plain_prepared plain_prepare(uint32_t page, const uint8_t *file, size_t n,
                            const uint8_t *transfer, size_t nt, const uint8_t *cheque, size_t nc,
                            uint8_t *out, size_t out_n, uint32_t *notes, size_t notes_n);
 
-/* Restore: 60 first, then 70; the record is always 0. If 0, out begins with the original; the rest is left as it was.
+/* Restore: 7, then 60, then 70; the record is always 0. If 0, out begins with the original; the rest is left as it was.
    All lent notes count. It works in memory of its own that it holds once: not for two threads at a time. */
-plain_restored plain_restore(const uint8_t *forwarded, size_t n, const uint32_t *notes, size_t notes_n,
+plain_restored plain_restore(uint32_t page, const uint8_t *forwarded, size_t n, const uint32_t *notes, size_t notes_n,
                            const uint8_t *transfer, size_t nt, const uint8_t *cheque, size_t nc,
                            uint8_t *out, size_t out_n);
 

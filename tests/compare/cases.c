@@ -48,6 +48,17 @@ static void long_taken_lists(void)
     lend_taken(NULL, 0);
 }
 
+/* Their call answers as the whole judge does on page 0. */
+static void judge_for_payroll_hosts(void)
+{
+    uint32_t page = code_page();
+    use_page(0);
+    const uint64_t *full = judge_full();
+    due(full[1] * 100 + full[0]);
+    judge();
+    use_page(page);
+}
+
 void random_taken_numbers(bool sound)
 {
     uint64_t list[100];
@@ -61,9 +72,7 @@ void random_taken_numbers(bool sound)
         due(times ? 50 : 0, 0, 0);
     judge_full();
     lend_taken(NULL, 0);
-    const uint64_t *full = judge_full();
-    due(full[1] * 100 + full[0]);
-    judge();
+    judge_for_payroll_hosts();
 }
 
 /* ---- Shown parts ---------------------------------------------------------------------------- */

@@ -60,17 +60,36 @@ static bool pick_country(uint8_t *at, const country_list *list)
 
 /* ---- Characters ---------------------------------------------------------------------------- */
 
-const char not_blank[] = "ABCDEFGHIJKLMNOPQRSTUVWXYZabcdefghijklmnopqrstuvwxyz0123456789.,-/+%&$[\\]~";
-_Static_assert(sizeof not_blank == NOT_BLANK + 1, "the characters that do not become spaces");
+uint8_t on_page(uint8_t b)
+{
+    for (int i = 0; i < 4 && code_page() == 1; i++)
+        for (int page = 0; page < PAGES; page++)
+            if (b == (uint8_t)german[page][i])
+                return (uint8_t)german[1 - page][i];
+    return b;
+}
 
-uint8_t filled_byte(void) { return (uint8_t)not_blank[below(NOT_BLANK)]; }
+void put_on_page(uint8_t *at, const char *text, size_t n)
+{
+    for (size_t i = 0; i < n; i++)
+        at[i] = on_page((uint8_t)text[i]);
+}
+
+uint8_t not_blank(size_t i)
+{
+    static const char all[] = "ABCDEFGHIJKLMNOPQRSTUVWXYZabcdefghijklmnopqrstuvwxyz0123456789.,-/+%&$[\\]~";
+    _Static_assert(sizeof all == NOT_BLANK + 1, "the characters that do not become spaces");
+    return on_page((uint8_t)all[i]);
+}
+
+uint8_t filled_byte(void) { return not_blank(below(NOT_BLANK)); }
 
 uint8_t blank_byte(void)
 {
-    static const char common[] = " =' @^_`{|}!\"#()*:;<>?\x7f\x80\xc4\xff";
+    static const char common[] = " =' @^_`{|}!\"#()*:;<>?\x7f\x80\xc4\xe4\xff";
     for (;;) {
-        uint8_t b = one_in(2) ? (uint8_t)common[below(sizeof common)] : (uint8_t)any();
-        if (becomes(b) == ' ')
+        uint8_t b = one_in(2) ? on_page((uint8_t)common[below(sizeof common)]) : (uint8_t)any();
+        if (becomes(code_page(), b) == ' ')
             return b;
     }
 }
@@ -84,10 +103,10 @@ uint8_t changed_into(uint8_t r)
             b = blank_byte();
         return b;
     case '+': return '&';
-    case 'S': return one_in(2) ? '$' : '~';
-    case 'A': return '[';
-    case 'O': return '\\';
-    case 'U': return ']';
+    case 'S': return one_in(2) ? '$' : on_page('~');
+    case 'A': return on_page('[');
+    case 'O': return on_page('\\');
+    case 'U': return on_page(']');
     default:  return r;
     }
 }
@@ -100,7 +119,7 @@ static void random_digits(uint8_t *at, size_t n)
 
 static uint8_t random_character(int mode)
 {
-    static const char mixed[] = "AEIOUS   abc012.,-/+%&$'[\\]~=@{|}!?\xc4\xdf\x80\xff";
+    static const char mixed[] = "AEIOUS   abc012.,-/+%&$'[\\]~=@{|}!?\xc4\xd6\xdc\xdf\xe4\x80\xff";
     switch (mode) {
     case 0: return (uint8_t)(one_in(4) ? ' ' : 'A' + below(26));
     case 1: return (uint8_t)mixed[below(sizeof mixed)];
@@ -145,7 +164,7 @@ uint64_t file_number(void)
 static uint8_t bic_character(bool digits_too)
 {
     if (one_in(12))
-        return (uint8_t)"$[\\]~"[below(5)];
+        return on_page((uint8_t)"$[\\]~"[below(5)]);
     return (uint8_t)(digits_too && one_in(3) ? '0' + below(10) : 'A' + below(26));
 }
 

@@ -21,10 +21,14 @@ void lend_taken(const uint64_t *numbers, size_t n);
 /* Where wrong ones are wanted, a draft has now and then a country that is not listed. */
 void want_wrong_countries(bool wanted);
 
-/* ---- Characters ---------------------------------------------------------------------------- */
+/* ---- Characters, on the page in use -------------------------------------------------------- */
 
-extern const char not_blank[];                      /* the characters that do not become spaces */
-enum { NOT_BLANK = 74 };
+/* The tables of the tests are written for page 0. On page 1 the codes of the two pages change places; all else stays. */
+uint8_t on_page(uint8_t b);
+void put_on_page(uint8_t *at, const char *text, size_t n);
+
+enum { NOT_BLANK = 74 };                            /* the characters that do not become spaces, from 0 on */
+uint8_t not_blank(size_t i);
 uint8_t filled_byte(void);
 uint8_t blank_byte(void);                           /* becomes a space */
 uint8_t changed_into(uint8_t r);                    /* a byte that becomes this one; itself if there is none */

@@ -66,6 +66,7 @@ static const char *const answer_name[CALLS][NUMBERS] = {
 
 typedef struct {
     int call;
+    uint32_t page;                                  /* the code page */
     size_t room, places;                            /* room in bytes, places in notes */
     uint64_t record, field;
     size_t shift;                                   /* bytes between the file and the closed page */
@@ -97,6 +98,8 @@ void lend(int which, const void *bytes, size_t n)
 
 uint8_t *lent_file(size_t at) { return stretch[FILE_IN].write - back(FILE_IN) + at; }
 void shift_file(size_t bytes) { now.shift = bytes; }
+void use_page(uint32_t page) { now.page = page; }
+uint32_t code_page(void) { return now.page; }
 void due_numbers(const uint64_t *numbers, size_t n) { lend(ANSWER_DUE, numbers, 8 * n); }
 void due_output(const uint8_t *bytes, size_t n) { lend(OUTPUT_DUE, bytes, n); }
 void due_notes(const uint32_t *notes, size_t n) { lend(NOTES_DUE, notes, 4 * n); }
@@ -127,14 +130,14 @@ static void ask(int side)
         ASK(judge, code, file, n, transfer, nt, cheque, nc);
         break;
     case JUDGE_FULL:
-        ASK(judge_full, judgement, file, n, transfer, nt, cheque, nc, lent(TAKEN), now.size[TAKEN] / 8);
+        ASK(judge_full, judgement, now.page, file, n, transfer, nt, cheque, nc, lent(TAKEN), now.size[TAKEN] / 8);
         break;
     case PREPARE:
-        ASK(prepare, prepared, file, n, transfer, nt, cheque, nc, out_of(side), now.room,
+        ASK(prepare, prepared, now.page, file, n, transfer, nt, cheque, nc, out_of(side), now.room,
             notes_of(side), now.places);
         break;
     case RESTORE:
-        ASK(restore, restored, file, n, lent(NOTES_IN), now.size[NOTES_IN] / 4, transfer, nt, cheque, nc,
+        ASK(restore, restored, now.page, file, n, lent(NOTES_IN), now.size[NOTES_IN] / 4, transfer, nt, cheque, nc,
             out_of(side), now.room);
         break;
     case SHOW:
@@ -143,6 +146,9 @@ static void ask(int side)
     }
     running = -1;
 }
+
+/* The call for payroll hosts stays on page 0, and a shown part is not read. */
+static bool names_page(void) { return now.call != JUDGE && now.call != SHOW; }
 
 /* ---- Differences -------------------------------------------------------------------------- */
 
@@ -181,8 +187,8 @@ static void keep_case(const char *what)
         perror(name);
         return;
     }
-    fprintf(f, "# %s\ncall %s\nroom %zu\nplaces %zu\nrecord %" PRIu64 "\nfield %" PRIu64 "\nshift %zu\n", what,
-            call_name[now.call], now.room, now.places, now.record, now.field, now.shift);
+    fprintf(f, "# %s\ncall %s\npage %" PRIu32 "\nroom %zu\nplaces %zu\nrecord %" PRIu64 "\nfield %" PRIu64 "\nshift %zu\n",
+            what, call_name[now.call], now.page, now.room, now.places, now.record, now.field, now.shift);
     for (int i = 0; i < STRETCHES; i++)
         write_stretch(f, i);
     if (fclose(f) == 0)
@@ -191,7 +197,10 @@ static void keep_case(const char *what)
 
 static void differ(const char *what)
 {
-    printf("difference in %s: %s\n", call_name[now.call], what);
+    printf("difference in %s", call_name[now.call]);
+    if (names_page())
+        printf(", page %" PRIu32, now.page);
+    printf(": %s\n", what);
     print_answer(DESK);
     print_answer(PLAIN);
     keep_case(what);
@@ -257,7 +266,9 @@ static void check_answer(int side)
             if (notes[i] / 256 >= notes[i + 1] / 256)
                 differ("notes do not rise");
     }
-    if ((writes || now.call == JUDGE_FULL) && (a[0] == 0 || a[0] >= 50) && a[1] != 0)
+    if (names_page() && (a[0] == 7) != (now.page >= PAGES))
+        differ("7 is told exactly where there is no such page");
+    if (names_page() && (a[0] == 0 || a[0] == 7 || a[0] >= 50) && a[1] != 0)
         differ("record 0 expected");
     if (now.call == JUDGE_FULL && a[0] && (a[3] || a[4] || a[5]))
         differ("sums answered though refused");
@@ -391,15 +402,15 @@ static bool read_stretch(FILE *f, int which)
 
 static bool read_figures(FILE *f)
 {
-    uint64_t room, places, shift;
-    if (!read_number(f, "room", &room) || !read_number(f, "places", &places) ||
+    uint64_t page, room, places, shift;
+    if (!read_number(f, "page", &page) || !read_number(f, "room", &room) || !read_number(f, "places", &places) ||
         !read_number(f, "record", &now.record) || !read_number(f, "field", &now.field) ||
         !read_number(f, "shift", &shift))
         return false;
-    now.room = (size_t)room, now.places = (size_t)places, now.shift = (size_t)shift;
-    printf("room %" PRIu64 ", places %" PRIu64 ", record %" PRIu64 ", field %" PRIu64 ", shift %" PRIu64 "\n", room,
-           places, now.record, now.field, shift);
-    return room <= MOST_FILE + SPARE / 2 && places <= MOST_NOTES + SPARE / 8 && shift <= SPARE / 2;
+    now.page = (uint32_t)page, now.room = (size_t)room, now.places = (size_t)places, now.shift = (size_t)shift;
+    printf("page %" PRIu64 ", room %" PRIu64 ", places %" PRIu64 ", record %" PRIu64 ", field %" PRIu64
+           ", shift %" PRIu64 "\n", page, room, places, now.record, now.field, shift);
+    return page <= UINT32_MAX && room <= MOST_FILE + SPARE / 2 && places <= MOST_NOTES + SPARE / 8 && shift <= SPARE / 2;
 }
 
 /* Reads a kept case into the request; says what it reads. */

@@ -26,6 +26,10 @@ uint8_t *lent_file(size_t at);
 /* As many bytes then stand between the lent file and the closed page; before the file is lent. */
 void shift_file(size_t bytes);
 
+/* The code page that this and the following calls name; judge and show name none. */
+void use_page(uint32_t page);
+uint32_t code_page(void);
+
 /* What the paper asks of the next call, and of that one alone: the answer's first numbers, the bytes that the output
    begins with, and the notes that the note places begin with. */
 void due_numbers(const uint64_t *numbers, size_t n);

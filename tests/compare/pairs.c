@@ -31,7 +31,7 @@ static void turn_back(void)
 void prepare_pair(bool sound)
 {
     if (sound) {
-        notes_n = forwarded_of(draft, draft_n, forwarded, notes);
+        notes_n = forwarded_of(code_page(), draft, draft_n, forwarded, notes);
         due(0, 0, notes_n);
         due_output(forwarded, draft_n);
         due_notes(notes, notes_n);
@@ -97,8 +97,8 @@ static size_t random_place(bool inside)
     }
 }
 
-/* Each changes the file or the notes above and answers the number that restore then owes, or that the way is not open to
-   this pair, or that the number is left to the comparison. */
+/* Each changes the file or the notes above, or names another page, and answers the number that restore then owes, or that
+   the way is not open to this pair, or that the number is left to the comparison. */
 enum { NOT_OPEN = -1, NOT_SETTLED = -2 };
 typedef int change(void);
 
@@ -152,7 +152,7 @@ static int other_replacement(void)
     if (notes_n == 0)
         return NOT_OPEN;
     size_t i = below(notes_n), at = notes[i] / 256;
-    uint8_t byte = forwarded[at] == ' ' ? (uint8_t)"$&[\\]~Aa0/"[below(10)] : blank_byte();
+    uint8_t byte = forwarded[at] == ' ' ? on_page((uint8_t)"$&[\\]~Aa0/"[below(10)]) : blank_byte();
     changed_notes[i] = (uint32_t)(at * 256 + byte);
     return 70;
 }
@@ -210,7 +210,7 @@ static int zero_before(void)
 static int not_clean(void)
 {
     uint8_t *b = changed_file + random_place(true);
-    *b = one_in(2) ? changed_into(' ') : (uint8_t)"&$[\\]~"[below(6)];
+    *b = one_in(2) ? changed_into(' ') : on_page((uint8_t)"&$[\\]~"[below(6)]);
     return 70;
 }
 
@@ -229,9 +229,28 @@ static int no_room(void)
     return 60;
 }
 
+/* The other page makes the same of a file but for the German characters of both. */
+static int other_page(void)
+{
+    uint32_t page = code_page();
+    use_page(1 - page);
+    for (size_t i = 0; i < notes_n; i++)
+        if (becomes(page, (uint8_t)notes[i]) != becomes(1 - page, (uint8_t)notes[i]))
+            return 70;
+    return 0;
+}
+
+/* What is forwarded is the same on every page. */
+static int other_page_without_notes(void)
+{
+    use_page(1 - code_page());
+    return no_notes();
+}
+
 static change *const changes[] = {
     as_it_is, no_notes, one_note_less, same_replacement, one_note_more, unreplaced, other_replacement, two_at_one_place,
-    falling_places, outside_text, outside_file, zeros_behind, zero_before, not_clean, not_sound, no_room
+    falling_places, outside_text, outside_file, zeros_behind, zero_before, not_clean, not_sound, no_room, other_page,
+    other_page_without_notes
 };
 enum { CHANGES = sizeof changes / sizeof changes[0] };
 
@@ -247,6 +266,7 @@ static const uint8_t *put_back(void)
 
 static void restore_changed(change *way)
 {
+    uint32_t page = code_page();
     memcpy(changed_file, forwarded, draft_n);
     memcpy(changed_notes, notes, 4 * (changed_n = notes_n));
     room = draft_n + spare(50);
@@ -260,6 +280,7 @@ static void restore_changed(change *way)
     if (number == 0)
         due_output(put_back(), draft_n);
     restore(room);
+    use_page(page);
     lend_draft();
 }
 

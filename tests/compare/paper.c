@@ -6,17 +6,22 @@ const place text_field[10] = {
     {0, -1}, {23, 162}, {53, 63}, {67, 206}, {210, 349}, {420, 454}, {475, 614}, {623, 647}, {652, 678}, {679, 713}
 };
 
-uint8_t becomes(uint8_t b)
+const char german[PAGES][5] = {"[\\]~", "\xC4\xD6\xDC\xDF"};
+
+uint8_t becomes(uint32_t page, uint8_t b)
 {
     static const char unchanged[] = "ABCDEFGHIJKLMNOPQRSTUVWXYZabcdefghijklmnopqrstuvwxyz0123456789 .,-/+%";
-    static const char changed[] = "&$[\\]~", into[] = "+SAOUS";
     const char *found;
     if (b == 0)
         return ' ';
     if (strchr(unchanged, b))
         return b;
-    found = strchr(changed, b);
-    return found ? (uint8_t)into[found - changed] : ' ';
+    if (b == '&')
+        return '+';
+    if (b == '$')
+        return 'S';
+    found = strchr(german[page], b);
+    return found ? (uint8_t)"AOUS"[found - german[page]] : ' ';
 }
 
 bool in_text(size_t at, size_t n)
@@ -29,12 +34,13 @@ bool in_text(size_t at, size_t n)
 }
 
 /* Replaces one field that begins at this place, and appends its notes to the k that there are. */
-static size_t forward_field(uint8_t *forwarded, size_t at, size_t width, uint32_t *notes, size_t k)
+static size_t forward_field(uint32_t page, uint8_t *forwarded, size_t at, size_t width, uint32_t *notes, size_t k)
 {
-    static uint8_t table[256];
+    static uint8_t tables[PAGES][256];
+    uint8_t *table = tables[page];
     if (table['A'] == 0)
         for (int b = 0; b < 256; b++)
-            table[b] = becomes((uint8_t)b);
+            table[b] = becomes(page, (uint8_t)b);
     for (size_t i = at; i < at + width; i++) {
         uint8_t b = forwarded[i];
         if (table[b] == b)
@@ -45,14 +51,14 @@ static size_t forward_field(uint8_t *forwarded, size_t at, size_t width, uint32_
     return k;
 }
 
-size_t forwarded_of(const uint8_t *file, size_t n, uint8_t *forwarded, uint32_t *notes)
+size_t forwarded_of(uint32_t page, const uint8_t *file, size_t n, uint8_t *forwarded, uint32_t *notes)
 {
     memcpy(forwarded, file, n);
-    size_t k = forward_field(forwarded, 23, 140, notes, 0);
+    size_t k = forward_field(page, forwarded, 23, 140, notes, 0);
     for (size_t at = 256; at + 768 + 256 <= n; at += 768)
         for (int f = 2; f <= 9; f++) {
             size_t width = (size_t)(text_field[f].last - text_field[f].first + 1);
-            k = forward_field(forwarded, at + (size_t)text_field[f].first, width, notes, k);
+            k = forward_field(page, forwarded, at + (size_t)text_field[f].first, width, notes, k);
         }
     return k;
 }
@@ -73,7 +79,7 @@ bool is_listed(const uint8_t *list, size_t n, const uint8_t country[2])
     return false;
 }
 
-/* Where the fields of each rule begin, by rising place; no field begins at 0. Rules 1 to 5, 50 and 0 have none. */
+/* Where the fields of each rule begin, by rising place; no field begins at 0. Rules 1 to 5, 7, 50 and 0 have none. */
 enum { LAST_RULE = 42, MOST_FIELDS = 6 };
 
 static const int fields_of[LAST_RULE + 1][MOST_FIELDS] = {

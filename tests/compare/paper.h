@@ -1,5 +1,5 @@
-/* What the tests themselves take from document 01 and from request A1 of document 02: where text stands, what the table
-   makes of it, dates, lists, where a broken rule points to. Both sides of the comparison are held to what follows. */
+/* What the tests themselves take from document 01 and from requests A1 and A2 of document 02: where text stands, what the
+   table makes of it, dates, lists, where a broken rule points to. Both sides of the comparison are held to what follows. */
 #ifndef PAPER_H
 #define PAPER_H
 
@@ -13,14 +13,18 @@ extern const place text_field[10];
 
 enum { MOST_NOTES = 140 + 9999 * 553 };             /* every character of every text field */
 
+/* Code pages: 0 is DIN 66003, 1 is ISO 8859-1, and any other is 7. The codes of the four German characters on each. */
+enum { PAGES = 2 };
+extern const char german[PAGES][5];
+
 /* What stands in the forwarded file for a byte of a text field. */
-uint8_t becomes(uint8_t b);
+uint8_t becomes(uint32_t page, uint8_t b);
 
 /* Whether a place of a sound file of n bytes lies in a text field. */
 bool in_text(size_t at, size_t n);
 
 /* The forwarded file of a sound file, and its notes; answers how many there are. */
-size_t forwarded_of(const uint8_t *file, size_t n, uint8_t *forwarded, uint32_t *notes);
+size_t forwarded_of(uint32_t page, const uint8_t *file, size_t n, uint8_t *forwarded, uint32_t *notes);
 
 /* Whether a year 2000 to 2099 has this day. */
 bool has_day(unsigned year, unsigned month, unsigned day);

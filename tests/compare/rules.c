@@ -7,7 +7,7 @@
 
 /* Who: Q, Z, or payments: b BIC alone, l BIC and country, c code and bank, s cheque.
    How: '!' any other byte, '9' a non-digit, '#' another digit, '_' a byte where blank is asked,
-   'f' blank where text is asked, 'g' blank but for one byte, '=' one of the values.
+   'f' blank where text is asked, 'g' blank but for one byte, '=' one of the values, which are written for page 0.
    Rule 0: still sound. */
 typedef struct { int rule; const char *who; int first, last; char how; const char *values; } row;
 
@@ -100,7 +100,7 @@ static size_t ways(const row *w)
 static void fill_blank(uint8_t *field, size_t width, const uint8_t *filler)
 {
     for (size_t i = 0; i < width; i++)
-        field[i] = filler ? *filler : blank_byte();
+        field[i] = filler ? on_page(*filler) : blank_byte();
 }
 
 static void spoil(const row *w, uint8_t *r, size_t way)
@@ -111,13 +111,13 @@ static void spoil(const row *w, uint8_t *r, size_t way)
     case '!': f[i] = f[i] == other_bytes[k] ? f[i] ^ 0x80 : other_bytes[k]; break;
     case '9': f[i] = non_digits[k]; break;
     case '#': f[i] = (uint8_t)('0' + ((unsigned)(f[i] - '0') + 1 + k) % 10); break;
-    case '_': f[i] = width > 100 ? filled_byte() : (uint8_t)not_blank[k]; break;
+    case '_': f[i] = width > 100 ? filled_byte() : not_blank(k); break;
     case 'f': fill_blank(f, width, way < sizeof fillers ? fillers + way : NULL); break;
     case 'g':
         fill_blank(f, width, k == 0 ? fillers : NULL);
         f[i] = filled_byte();
         break;
-    default: memcpy(f, w->values + way * width, width); break;
+    default: put_on_page(f, w->values + way * width, width); break;
     }
 }
 

@@ -1,4 +1,5 @@
-/* The suites of the comparison. Each is a file of its own; compare.c runs them in turn. */
+/* The suites of the comparison. Each is a file of its own; compare.c runs them in turn, those that read text on each code
+   page. */
 #ifndef SUITES_H
 #define SUITES_H
 
@@ -29,7 +30,7 @@ void each_amount(void);
 
 /* verdicts.c: what is due of each call, on the draft as it is lent, without taken numbers. The verdict on it is known. */
 void judge_lent(verdict told);
-void judge_both_ways(verdict told);                 /* by the call for payroll hosts too */
+void judge_both_ways(verdict told);                 /* on page 0 by the call for payroll hosts too, which stays there */
 void another_call(size_t turn, verdict told);
 void show_part(uint64_t record, uint64_t field, bool walked);       /* walked: no rule of 1 to 5 is broken */
 
@@ -41,8 +42,10 @@ void random_taken_numbers(bool sound);
 void random_parts(void);
 void spoil_structure(void);                         /* of the draft; what is then due is not known */
 
-/* sweep.c: every date, what people send by mistake, wrong totals, long lists; and every byte at every place, every pair of
-   characters in the short fields, numbers of payments. */
+/* sweep.c: what people send by mistake; every byte at every place; every date, wrong totals, long lists; and every pair of
+   characters in the short fields, numbers of payments. Of these the first two read text. */
+void each_mistake(void);
+void each_byte(void);
 void near_misses(void);
 void sweep(void);
 void random_near_miss(void);                        /* with the annexes */

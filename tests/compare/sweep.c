@@ -110,13 +110,14 @@ static bool is_date(const uint8_t *six)
 /* f is the stretch with the byte in it; old is what stood there. */
 static bool may_stand(may_be what, uint8_t old, uint8_t b, const uint8_t *f)
 {
+    uint8_t read = becomes(code_page(), b);
     switch (what) {
     case ITSELF: return b == old;
     case DIGIT: return is_digit(b);
-    case LAST_ONE: return old == ' ' || becomes(b) != ' ';
-    case SPACE: return becomes(b) == ' ';
-    case LETTER: return is_capital(becomes(b));
-    case LETTER_OR_DIGIT: return is_capital(becomes(b)) || is_digit(becomes(b));
+    case LAST_ONE: return old == ' ' || read != ' ';
+    case SPACE: return read == ' ';
+    case LETTER: return is_capital(read);
+    case LETTER_OR_DIGIT: return is_capital(read) || is_digit(read);
     case CAPITAL: return is_capital(b);
     case TRANSFER_COUNTRY: return is_listed((const uint8_t *)annex_ii, ANNEX_II_BYTES, f);
     case CHEQUE_COUNTRY: return is_listed((const uint8_t *)annex_i, ANNEX_I_BYTES, f);
@@ -169,7 +170,7 @@ static void each_byte_of(char who, size_t record, int first, int last)
 }
 
 /* The whole file, and then T8 to T9b, T21 and T22 of the other transfers, which differ there alone. */
-static void each_byte(void)
+static void each_byte_judged(void)
 {
     one_transfer_one_cheque(BIC_ALONE);
     each_byte_of('Q', 0, 0, 255);
@@ -211,7 +212,7 @@ static void fill_text(uint8_t *r, int first_field, int last_field, unsigned from
 }
 
 /* Each turn has other bytes at all places at once. T8 need not have BIC shape; in the cheque T8, T9b and T12 stay blank. */
-static void each_byte_of_text(void)
+static void each_byte_prepared(void)
 {
     for (unsigned from = 0; from < 256; from++) {
         one_transfer_one_cheque(CODE_AND_BANK);
@@ -306,6 +307,7 @@ static void each_pair_of_characters(void)
 
 /* ---- What people send by mistake ------------------------------------------------------------- */
 
+/* The bytes are written for page 0. */
 typedef struct { size_t record; int at; const char *bytes; unsigned rule; } mistake;
 
 static const mistake mistakes[] = {
@@ -354,14 +356,14 @@ static void make_mistake(const mistake *m)
 {
     one_transfer_one_cheque(BIC_ALONE);
     verdict told = broken_at(m->rule, m->record, m->at);
-    put(record_of(m->record) + m->at, m->bytes);
+    put_on_page(record_of(m->record) + m->at, m->bytes, strlen(m->bytes));
     lend_draft();
     judge_both_ways(told);
     for (size_t turn = 0; turn < 4; turn++)
         another_call(turn, told);
 }
 
-static void each_mistake(void)
+void each_mistake(void)
 {
     for (size_t i = 0; i < MISTAKES; i++)
         make_mistake(&mistakes[i]);
@@ -489,18 +491,21 @@ void random_near_miss(void)
     make_mistake(&mistakes[below(MISTAKES)]);
 }
 
+void each_byte(void)
+{
+    each_byte_judged();
+    each_byte_prepared();
+}
+
 void near_misses(void)
 {
     each_date();
-    each_mistake();
     each_total();
     each_long_list();
 }
 
 void sweep(void)
 {
-    each_byte();
-    each_byte_of_text();
     each_pair_of_characters();
     each_number_of_payments();
 }

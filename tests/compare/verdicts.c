@@ -11,6 +11,8 @@ void judge_lent(verdict told)
 void judge_both_ways(verdict told)
 {
     judge_lent(told);
+    if (code_page() != 0)
+        return;                                         /* that call stays on page 0 */
     due(100 * told.record + told.rule);
     judge();
 }
@@ -52,7 +54,7 @@ static void restore_it(uint64_t rule)
 {
     bool clean = true;
     for (size_t at = 0; rule == 0 && at < draft_n; at++)
-        clean &= !in_text(at, draft_n) || becomes(draft[at]) == draft[at];
+        clean &= !in_text(at, draft_n) || becomes(code_page(), draft[at]) == draft[at];
     lend(NOTES_IN, NULL, 0);
     due(rule == 0 && clean ? 0 : 70, 0);
     restore(draft_n);
