@@ -17,7 +17,7 @@
 #include "drafts.h"
 #include "suites.h"
 
-/* What reads text. */
+/* What reads text; the rest of the fixed part stays on page 0. */
 static void on_each_page(void)
 {
     for (uint32_t page = 0; page < PAGES; page++) {
@@ -37,6 +37,7 @@ static void on_each_page(void)
 static void fixed_part(void)
 {
     use_annexes();
+    each_code_page();
     each_length();
     each_amount();
     near_misses();
@@ -60,6 +61,8 @@ static void every_call(bool sound)
 {
     shift_file(one_in(4) ? below(16) : 0);
     lend_draft();
+    if (one_in(8))
+        random_page_number();
     random_taken_numbers(sound);
     random_parts();
     if (draft_n < 512) {
@@ -86,6 +89,7 @@ static void random_case(void)
         random_rule_alone();
         random_pair_of_rules();
         random_near_miss();
+        random_reading();
         return;
     }
     if (one_in(3)) {

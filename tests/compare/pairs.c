@@ -229,7 +229,7 @@ static int no_room(void)
     return 60;
 }
 
-/* The other page makes the same of a file but for the German characters of both. */
+/* Both pages make the same of every character, but for the German ones of either. */
 static int other_page(void)
 {
     uint32_t page = code_page();
@@ -240,17 +240,25 @@ static int other_page(void)
     return 0;
 }
 
-/* What is forwarded is the same on every page. */
+/* Every page leaves the characters of a forwarded file as they are. */
 static int other_page_without_notes(void)
 {
     use_page(1 - code_page());
     return no_notes();
 }
 
+static int no_page(void)
+{
+    if (one_in(2)) no_room();
+    if (one_in(2)) changed_notes[changed_n++] = (uint32_t)any();
+    use_page(no_such_page());
+    return 7;
+}
+
 static change *const changes[] = {
     as_it_is, no_notes, one_note_less, same_replacement, one_note_more, unreplaced, other_replacement, two_at_one_place,
     falling_places, outside_text, outside_file, zeros_behind, zero_before, not_clean, not_sound, no_room, other_page,
-    other_page_without_notes
+    other_page_without_notes, no_page
 };
 enum { CHANGES = sizeof changes / sizeof changes[0] };
 

@@ -28,6 +28,12 @@ void some_rooms_and_changes(void);                  /* of the last pair, which m
 /* amounts.c: rule 33, and which of T14a and T14b it points to. */
 void each_amount(void);
 
+/* pages.c: what request A2 names of the code page. It names pages of its own, and leaves page 0 in use. */
+void each_code_page(void);
+void random_reading(void);
+uint32_t no_such_page(void);                        /* a number that no page has */
+void random_page_number(void);                      /* such a number, with the draft as it is lent */
+
 /* verdicts.c: what is due of each call, on the draft as it is lent, without taken numbers. The verdict on it is known. */
 void judge_lent(verdict told);
 void judge_both_ways(verdict told);                 /* on page 0 by the call for payroll hosts too, which stays there */
