@@ -147,7 +147,7 @@ static void ask(int side)
     running = -1;
 }
 
-/* The call for payroll hosts stays on page 0, and a shown part is not read. */
+/* The call for payroll hosts stays on page 0, and show reads no table. */
 static bool names_page(void) { return now.call != JUDGE && now.call != SHOW; }
 
 /* ---- Differences -------------------------------------------------------------------------- */
