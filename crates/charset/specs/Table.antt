@@ -22,11 +22,12 @@ abbrev pub unchanged : ℕ → Bool
 unchanged b =
     within (code "A") (code "Z") b || within (code "a") (code "z") b || within (code "0") (code "9") b || among (ascii " .,-/+%") b
 
--- the pages that there are. A call that names any other is refused before a table is read (demands/Page)
+-- the pages that there are. The calls refuse any other, so that no answer depends on what stands below for it (demands/Page)
 abbrev pub isPage : ℕ → Bool
 isPage page = eqb page 0 || eqb page 1
 
--- the four German characters at their codes on page 0 and on page 1, and what they become
+-- the four German characters at their codes on page 0 and on page 1, and what they become; any other number has page 1's
+-- rows, and no call asks for them
 abbrev pub german : ℕ → List (ℕ × ℕ)
 german zero = (0x5B, code "A") ∷ (0x5C, code "O") ∷ (0x5D, code "U") ∷ (0x7E, code "S") ∷ []
 german (suc _) = (0xC4, code "A") ∷ (0xD6, code "O") ∷ (0xDC, code "U") ∷ (0xDF, code "S") ∷ []
@@ -47,7 +48,7 @@ rep page b = cond (unchanged b) b (look (exceptions page) b)
 abbrev pub text : ℕ → List ℕ → List ℕ
 text page s = map (rep page) s
 
--- "What they need of a table is stated once and shown for both: a replaced character is its own replacement."
+-- what the demands need of a table: a replaced character is its own replacement
 abbrev pub OwnReplacement : (ℕ → ℕ) → Type 0
 OwnReplacement r = (b : ℕ) → r (r b) ≡ r b
 

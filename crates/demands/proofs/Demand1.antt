@@ -25,7 +25,7 @@ use Rattle.restore.specs.declared.Restored.{Restored}
 use Rattle.demands.specs.Page.{Page, JudgePage, PreparePage, RestorePage}
 use Rattle.demands.specs.Broken.{Broken}
 use Rattle.demands.specs.Demand1.{FileRule, JudgeNumbers, PrepareNumbers, RestoreNumbers, PrepareKeeps, RestoreKeeps}
-use Rattle.demands.proofs.Pages.{one-answer, seven}
+use Rattle.demands.proofs.Pages.{one-answer, never-7}
 use Rattle.demands.proofs.Turns.{walk-range}
 use Rattle.demands.proofs.Demand2.{low, content-rule, judged}
 
@@ -98,7 +98,7 @@ unfolding judgeOf
 judge-page page file transfer cheque taken answer promise =
     let x = orTaken (verdictOf page file transfer cheque) file taken in
     let number : Verdict → ℕ = λ v. v .number in
-    (seven page number x (refused 7 0 0) answer promise refl (judged-7 page file transfer cheque taken), one-answer page number x (refused 7 0 0) answer promise)
+    (never-7 page number x (refused 7 0 0) answer promise (judged-7 page file transfer cheque taken), one-answer page number x (refused 7 0 0) answer promise)
 
 module _ (page : ℕ) (file transfer cheque out notes : List ℕ) where
   abbrev PreparesTo : Prepared → Type 0
@@ -156,7 +156,7 @@ prepare-page page file transfer cheque out notes out' notes' answer promise =
     let one = one-answer page number x (notPrepared 7 0) answer (promise .answer-is) in
     let kept : (Page page → ⊥) → (out' ≡ out) × (notes' ≡ notes) =
     λ n. prepare-keeps page file transfer cheque out notes out' notes' answer promise (λ z. omega (arith, z, ap number (one n))) in
-    (seven page number x (notPrepared 7 0) answer (promise .answer-is) refl (prepared-7 page file transfer cheque out notes), λ n. (one n, kept n .0, kept n .1))
+    (never-7 page number x (notPrepared 7 0) answer (promise .answer-is) (prepared-7 page file transfer cheque out notes), λ n. (one n, kept n .0, kept n .1))
 
 pub restore-page : RestorePage
 unfolding restoreOf
@@ -167,4 +167,4 @@ restore-page page sent notes transfer cheque out out' given promise =
     let other : x .number ≡ 7 → ⊥ =
     either (λ (a : Restored). a .number ≡ 7 → ⊥) (ltb (length out) (length sent)) _ _ (λ e. omega (arith, e))
     (either (λ (a : Restored). a .number ≡ 7 → ⊥) (isYielded page sent notes transfer cheque) _ _ (λ e. omega (arith, e)) (λ e. omega (arith, e))) in
-    (seven page number x (answer 7) given (promise .answer-is) refl other, λ n. (one n, restore-keeps page sent notes transfer cheque out out' given promise (λ z. omega (arith, z, ap number (one n)))))
+    (never-7 page number x (answer 7) given (promise .answer-is) other, λ n. (one n, restore-keeps page sent notes transfer cheque out out' given promise (λ z. omega (arith, z, ap number (one n)))))

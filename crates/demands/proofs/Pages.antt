@@ -6,8 +6,8 @@ use mathlib.Core.Logic.{inl, inr}
 use borrow.Author.Tests.{eqb-true}
 use lib.Dec.{eqb}
 use Rattle.laws.specs.Choice.{on, off}
-use Rattle.charset.specs.Table.{isPage, rep-rep}
-use Rattle.demands.specs.Page.{Page, Seven, TablesStay}
+use Rattle.charset.specs.Table.{isPage, rep, rep-rep}
+use Rattle.demands.specs.Page.{Page, TablesStay, GermanRead}
 
 module _ (page : ℕ) where
   pub is-page : Page page → isPage page ≡ true
@@ -37,8 +37,12 @@ module _ (page : ℕ) where
     pub one-answer : (Page page → ⊥) → answer ≡ y
     one-answer n = e ∙ sym (off x (no-page n) refl)
 
-    pub seven : number y ≡ 7 → (number x ≡ 7 → ⊥) → Seven page (number answer)
-    seven is other = (λ z p. other (sym (ap number (on-page p)) ∙ z), λ n. ap number (one-answer n) ∙ is)
+    pub never-7 : (number x ≡ 7 → ⊥) → Page page → number answer ≡ 7 → ⊥
+    never-7 other p z = other (sym (ap number (on-page p)) ∙ z)
 
 pub tables-stay : TablesStay
 tables-stay page p = rep-rep page
+
+pub german-read : GermanRead
+unfolding rep
+german-read = record { on-page-0 = refl; on-page-1 = refl; small-on-page-0 = refl; small-on-page-1 = refl }

@@ -1,12 +1,13 @@
--- Document 02, A2 (RULES 3.1, 8): "The caller names the code page, 0 for DIN 66003, 1 for ISO 8859-1." What the demands need
--- of a table. And the refusal: "any other page number is 7, record and offset 0, before every other number." A page that
--- does not exist never reaches a table: whatever file, lists and room are handed in, there is one answer, and what was lent
--- is as it was.
+-- Document 02, A2 (RULES 3, 8): "The caller names the code page, 0 for DIN 66003, 1 for ISO 8859-1." Where the German
+-- characters are read, and what the demands need of a table. And the refusal: "any other page number is 7, record and offset
+-- 0, before every other number": whatever file, lists and room are handed in, there is one answer, and what was lent is as it
+-- was. So no answer depends on a table for a page that does not exist.
 use Prim.Native.Nat.{ℕ}
 use mathlib.Core.Path.{_≡_}
-use mathlib.Core.List.{List}
-use mathlib.Core.Logic.{_⊎_, _↔_}
-use Rattle.charset.specs.Table.{rep, OwnReplacement}
+use mathlib.Core.List.{List, [], _∷_}
+use mathlib.Core.Logic.{_⊎_}
+use Rattle.laws.specs.Ascii.{ascii}
+use Rattle.charset.specs.Table.{rep, text, OwnReplacement}
 use Rattle.judge.specs.Verdict.{refused, JudgedAs}
 use Rattle.judge.specs.declared.Verdict.{Verdict}
 use Rattle.prepare.specs.Prepared.{notPrepared, PreparedAs}
@@ -22,24 +23,34 @@ Page page = (page ≡ 0) ⊎ (page ≡ 1)
 abbrev pub TablesStay : Type 0
 TablesStay = (page : ℕ) → Page page → OwnReplacement (rep page)
 
--- 7 is answered exactly where there is no such page
-abbrev pub Seven : ℕ → ℕ → Type 0
-Seven page number = (number ≡ 7) ↔ (Page page → ⊥)
+-- "C4, D6, DC and DF for the four German characters"; "Under 1, hex 5B, 5C, 5D and 7E become spaces like any unlisted byte,
+-- small umlauts among them." Of page 0 document 01 says the same the other way round
+abbrev pub capitals : List ℕ
+capitals = 0x5B ∷ 0x5C ∷ 0x5D ∷ 0x7E ∷ 0xC4 ∷ 0xD6 ∷ 0xDC ∷ 0xDF ∷ []
 
--- and then always with the same answer
+abbrev pub small : List ℕ
+small = 0x7B ∷ 0x7C ∷ 0x7D ∷ 0xE4 ∷ 0xF6 ∷ 0xFC ∷ []
+
+pub record GermanRead : Type 0 where
+  pub on-page-0 : text 0 capitals ≡ ascii "AOUS    "
+  pub on-page-1 : text 1 capitals ≡ ascii "    AOUS"
+  pub small-on-page-0 : text 0 small ≡ ascii "      "
+  pub small-on-page-1 : text 1 small ≡ ascii "      "
+
+-- never 7 on a page that there is, and the same answer on every other
 abbrev pub JudgePage : Type 0
 JudgePage =
     (page : ℕ) (file transfer cheque taken : List ℕ) (answer : Verdict) → JudgedAs page file transfer cheque taken answer
-    → Seven page (answer .number) × ((Page page → ⊥) → answer ≡ refused 7 0 0)
+    → (Page page → answer .number ≡ 7 → ⊥) × ((Page page → ⊥) → answer ≡ refused 7 0 0)
 
 abbrev pub PreparePage : Type 0
 PreparePage =
     (page : ℕ) (file transfer cheque out notes out' notes' : List ℕ) (answer : Prepared)
     → PreparedAs page file transfer cheque out notes answer out' notes'
-    → Seven page (answer .number) × ((Page page → ⊥) → (answer ≡ notPrepared 7 0) × (out' ≡ out) × (notes' ≡ notes))
+    → (Page page → answer .number ≡ 7 → ⊥) × ((Page page → ⊥) → (answer ≡ notPrepared 7 0) × (out' ≡ out) × (notes' ≡ notes))
 
 abbrev pub RestorePage : Type 0
 RestorePage =
     (page : ℕ) (sent notes transfer cheque out out' : List ℕ) (answer : Restored)
     → RestoredAs page sent notes transfer cheque out answer out'
-    → Seven page (answer .number) × ((Page page → ⊥) → (answer ≡ record { number = 7; rec = 0 }) × (out' ≡ out))
+    → (Page page → answer .number ≡ 7 → ⊥) × ((Page page → ⊥) → (answer ≡ record { number = 7; rec = 0 }) × (out' ≡ out))

@@ -1,7 +1,7 @@
 -- Document 01, "What every promise settles" (RULES 14): "For each input, refused ones too, a public call's promise
 -- leaves one possible answer and one possible content of all memory it was lent. That any two permitted outcomes
--- coincide is proved". On any page, also one that does not exist. Over the predicates that the calls' `ensures` state. `desk_judge_full`, `desk_prepare` and
--- `desk_restore` promise `JudgedAs`, `PreparedAs` and `RestoredAs` too.
+-- coincide is proved". Over the predicates that the calls' `ensures` state, and on any page, also one that does not exist.
+-- `desk_judge_full`, `desk_prepare` and `desk_restore` promise `JudgedAs`, `PreparedAs` and `RestoredAs` too.
 use Prim.Native.Nat.{ℕ}
 use mathlib.Core.Path.{_≡_}
 use mathlib.Core.List.{List}

@@ -1,5 +1,5 @@
 // Both sides of each edge of document 01, where each rule points (document 02, A1), and the code pages (A2), run: a line
-// for each. Where no page is told it is page 0.
+// for each. Where no page is told it is page 0, and page 1 in the program.
 use libc::STDOUT_FILENO;
 
 mod files;

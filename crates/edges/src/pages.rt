@@ -1,5 +1,5 @@
 // The code pages (document 02, A2): what the German characters become on each, files that one page alone finds sound, and
-// page numbers that there are not.
+// numbers that are no page's.
 
 // The second byte of the second payee, a place of text.
 const PLACE: usize = 1235;
@@ -55,25 +55,42 @@ fn german_characters() {
     becomes(b"hex FC, u umlaut on page 1", 0xFC);
 }
 
-// Judges the example on both pages, with a text written over it and then the byte, an A umlaut on one of them, at a place.
-fn on_both(rule: &[u8], byte: u8, at: usize, text: &[u8], place: usize) {
-    let mut file = crate::files::example(b"ANNA BEISPIEL", b"M&M STUDIO");
-    crate::files::put(&mut file, at, text);
-    crate::files::put(&mut file, place, &[byte]);
-    crate::say_number(rule, byte as u64);
-    crate::judge_on(0, b", page 0", &file, &[]);
-    crate::say_number(rule, byte as u64);
-    crate::judge_on(1, b", page 1", &file, &[]);
+// A file with a text written over it, and then the byte at a place.
+fn with(file: &[u8], at: usize, text: &[u8], place: usize, byte: u8) -> [u8; 2048] {
+    let mut changed = [32u8; 2048];
+    crate::files::put(&mut changed, 0, file);
+    crate::files::put(&mut changed, at, text);
+    crate::files::put(&mut changed, place, &[byte]);
+    changed
 }
 
-// Sound on one page alone: the byte is all that the ordering party's name has, a letter of the BIC, all of the bank's name,
-// all of the payee's, and the first character of the account.
-fn one_page_alone(byte: u8) {
-    on_both(b"rule 12, byte ", byte, 23, &[32u8; 35], 23);
-    on_both(b"rule 26, byte ", byte, 309, b"ABCDDEFF", 316);
-    on_both(b"rule 27, byte ", byte, 309, b"           US ", 323);
-    on_both(b"rule 29, byte ", byte, 466, &[32u8; 35], 466);
-    on_both(b"rule 31, byte ", byte, 676, b"/1234567", 677);
+// Two lines: the judge on both pages.
+fn on_both(rule: &[u8], name: &[u8], file: &[u8]) {
+    crate::say(rule);
+    crate::say(name);
+    crate::judge_on(0, b", page 0", file, &[]);
+    crate::say(rule);
+    crate::say(name);
+    crate::judge_on(1, b", page 1", file, &[]);
+}
+
+// A byte that is a letter on one page and a space on the other. It is all that the ordering party's name has, a letter of
+// the BIC, all of the bank's name, all of the payee's, the first character of the account; and all of a cheque's T8.
+fn one_page_alone(name: &[u8], byte: u8, file: &[u8], cheque: &[u8]) {
+    on_both(b"rule 12, ", name, &with(file, 23, &[32u8; 35], 23, byte));
+    on_both(b"rule 26, ", name, &with(file, 309, b"ABCDDEFF", 316, byte));
+    on_both(
+        b"rule 27, ",
+        name,
+        &with(file, 309, b"           US ", 323, byte),
+    );
+    on_both(b"rule 29, ", name, &with(file, 466, &[32u8; 35], 466, byte));
+    on_both(b"rule 31, ", name, &with(file, 676, b"/1234567", 677, byte));
+    on_both(
+        b"rule 25, ",
+        name,
+        &with(cheque, 309, b"        ", 309, byte),
+    );
 }
 
 fn judge_on(page: u32, edge: &[u8], file: &[u8], taken: &[u64]) {
@@ -81,16 +98,15 @@ fn judge_on(page: u32, edge: &[u8], file: &[u8], taken: &[u64]) {
     crate::judge_on(page, edge, file, taken);
 }
 
-// Prepare, with room for a byte less than the file has, and for no note.
-fn prepare_on(page: u32, file: &[u8]) {
+fn prepare_on(page: u32, edge: &[u8], file: &[u8], out: &mut [u8], pattern: &[u8]) {
     crate::say_number(b"page ", page as u64);
     crate::refused(
         page,
-        b", output room one short",
+        edge,
         file,
-        &mut [crate::PATTERN; 2047],
-        &[crate::PATTERN; 2047],
-        &mut [],
+        out,
+        pattern,
+        &mut [crate::NOTE_PATTERN; 1],
     );
 }
 
@@ -107,7 +123,20 @@ fn no_such_page(page: u32, file: &[u8]) {
     judge_on(page, b", a sound file", file, &[]);
     judge_on(page, b", a taken number", file, &[1224022907]);
     judge_on(page, b", an empty file", &[], &[]);
-    prepare_on(page, file);
+    prepare_on(
+        page,
+        b", prepare, room one short",
+        file,
+        &mut [crate::PATTERN; 2047],
+        &[crate::PATTERN; 2047],
+    );
+    prepare_on(
+        page,
+        b", prepare, exact room",
+        file,
+        &mut [crate::PATTERN; 2048],
+        &[crate::PATTERN; 2048],
+    );
     restore_on(
         page,
         b", restore, room one short",
@@ -132,9 +161,10 @@ fn too_long(file: &[u8; 7679745]) {
 
 pub fn edges() {
     let file = crate::files::example(b"ANNA BEISPIEL", b"M&M STUDIO");
+    let cheque = crate::files::with_a_cheque();
     german_characters();
-    one_page_alone(0x5B);
-    one_page_alone(0xC4);
+    one_page_alone(b"hex 5B", 0x5B, &file, &cheque);
+    one_page_alone(b"hex C4", 0xC4, &file, &cheque);
     no_such_page(2, &file);
     no_such_page(255, &file);
     no_such_page(4294967295, &file);

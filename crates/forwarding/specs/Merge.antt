@@ -31,7 +31,7 @@ accepts r isText i (b ∷ bytes) (v ∷ notes) =
     cond (eqb (v / 256) i) (becomes r isText i (v % 256) b && accepts r isText (suc i) bytes notes)
     (not (differs r isText i b) && accepts r isText (suc i) bytes (v ∷ notes))
 
--- of a whole forwarded file, on a code page
+-- of a whole forwarded file; which pairs there are depends on the code page, what a pair gives back does not
 unfoldable pub originalOf : List ℕ → List ℕ → List ℕ
 originalOf bytes notes = merged 0 bytes notes
 
