@@ -73,7 +73,8 @@ typedef struct { uint64_t number, record, notes; } desk_prepared;
 typedef struct { uint64_t number, record; } desk_restored;
 typedef struct { uint64_t start, length; } desk_part;
 
-/* Judges a file on page 0 (DIN 66003) without taken numbers: record * 100 + number; 0 for a sound file.
+/* Judges a file on page 0 (DIN 66003) without taken numbers: record * 100 + number; 0 for a sound file. For a file in ISO
+   8859-1 there is desk_judge_full with page 1; here its umlauts would be read as spaces.
    transfer and cheque are country lists, two bytes a country; a lone last byte is ignored. */
 uint64_t desk_judge(const uint8_t *file, size_t n,
                     const uint8_t *transfer, size_t nt, const uint8_t *cheque, size_t nc);

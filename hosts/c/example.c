@@ -4,7 +4,7 @@
        example [--page 0|1] FILE [FORWARDED NOTES]
 
    The page says at which codes FILE has the four German characters: 0 is DIN 66003, 1 is ISO 8859-1. Where none is named
-   it is 1. It is told with a sound file: store it with the pair, for restore needs the page and the country lists that
+   it is 1. It is told with the verdict: store it with the pair, for restore needs the page and the country lists that
    prepare had. A word that begins with - is taken for an option; a file of such a name is ./-name.
 
    It writes over nothing, and nothing that fails leaves anything behind:
@@ -85,17 +85,18 @@ static bool understand(request *asked)
 {
     if (!take_page(asked))
         return false;
+    bool right = asked->count == 1 || asked->count == 3;
     for (int i = 0; i < asked->count; i++) {
         const char *word = asked->words[i];
         if (word[0] == '-') {
             fprintf(stderr, "%s: no option in this place; a file of that name is ./%s\n", word, word);
-            return false;
+            right = false;
+            break;
         }
     }
-    if (asked->count == 1 || asked->count == 3)
-        return true;
-    fprintf(stderr, "usage: example [--page 0|1] FILE [FORWARDED NOTES]\n");
-    return false;
+    if (!right)
+        fprintf(stderr, "usage: example [--page 0|1] FILE [FORWARDED NOTES]\n");
+    return right;
 }
 
 /* The paths: the words, and the new files that become the two targets. */
@@ -247,11 +248,11 @@ static void tell_changes(uint64_t count)
     printf("%" PRIu64 " characters changed\n", count);
 }
 
-static bool refused(uint64_t number, uint64_t record, uint64_t at)
+static bool refused(uint32_t page, uint64_t number, uint64_t record, uint64_t at)
 {
     char line[DESK_LINE];
     desk_refusal_line(line, number, record, at);
-    printf("refused: %s\n", line);
+    printf("refused on %s: %s\n", pages[page].name, line);
     return false;
 }
 
@@ -262,13 +263,13 @@ static bool examine(uint32_t page, size_t n, uint64_t *count)
     static const uint64_t none[1];
     desk_judgement judged = desk_judge_full(page, file, n, LISTS, none, 0);
     if (judged.number)
-        return refused(judged.number, judged.record, judged.at);
+        return refused(page, judged.number, judged.record, judged.at);
     printf("sound on %s: %" PRIu64 " payments, %" PRIu64 " euros and %" PRIu64 " cents\n", pages[page].name,
            judged.payments, judged.euros, judged.cents);
 
     desk_prepared prepared = desk_prepare(page, file, n, LISTS, forwarded, sizeof forwarded, notes, MOST);
     if (prepared.number)
-        return refused(prepared.number, prepared.record, 0);
+        return refused(page, prepared.number, prepared.record, 0);
     tell_changes(prepared.notes);
     *count = prepared.notes;
 

@@ -10,7 +10,7 @@
 
 use std::{error, fmt, ops::Range};
 
-/// The code page: where the office writes the four German characters Ä, Ö, Ü and ß, which become A, O, U and S. On the one
+/// The code page: at which codes the office writes the four German characters Ä, Ö, Ü and ß, which become A, O, U and S. On the one
 /// page the codes of the other become spaces.
 #[derive(Clone, Copy, Debug, PartialEq, Eq)]
 #[repr(u32)]
@@ -75,7 +75,8 @@ pub enum Field {
     T24,
 }
 
-/// Judges a file on page 0 (DIN 66003) without taken numbers: record × 100 + number; 0 for a sound file.
+/// Judges a file on page 0 (DIN 66003) without taken numbers: record × 100 + number; 0 for a sound file. For a file in ISO
+/// 8859-1 there is `judge` with that page; here its umlauts would be read as spaces.
 pub fn judge_code(file: &[u8], lists: Lists) -> u64 {
     let Lists { transfer, cheque } = lists;
     // SAFETY: each pointer and count is one slice's.

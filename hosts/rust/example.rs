@@ -4,7 +4,7 @@
 //!     example [--page 0|1] FILE [FORWARDED NOTES]
 //!
 //! The page says at which codes FILE has the four German characters: 0 is DIN 66003, 1 is ISO 8859-1. Where none is named
-//! it is 1. It is told with a sound file: store it with the pair, for restore needs the page and the country lists that
+//! it is 1. It is told with the verdict: store it with the pair, for restore needs the page and the country lists that
 //! prepare had. A word that begins with - is taken for an option; a file of such a name is ./-name.
 //!
 //! It writes over nothing, and nothing that fails leaves anything behind:
@@ -39,10 +39,12 @@ const LISTS: Lists = Lists {
     cheque: b"ARBOBRCLCRDOSVECGTGBHNCACOMXNIPAPYPEPRUYUSVE",
 };
 
+const USAGE: &str = "usage: example [--page 0|1] FILE [FORWARDED NOTES]";
+
 /// The longest file that is not refused by rule 1.
 const MOST: u64 = 7_679_744;
 
-/// Something could not be done: the line that says so, in which a path keeps its very bytes.
+/// Something could not be done: what is said of it, in which a path keeps its very bytes.
 type Failure = OsString;
 
 fn main() -> ExitCode {
@@ -50,7 +52,7 @@ fn main() -> ExitCode {
     let done = understand(&words).and_then(|(page, paths)| match paths {
         [file] => run(page, Path::new(file), None),
         [file, forwarded, notes] => run(page, Path::new(file), Some(Targets::new(forwarded, notes))),
-        _ => Err("usage: example [--page 0|1] FILE [FORWARDED NOTES]".into()),
+        _ => Err(USAGE.into()),
     });
     match done {
         Ok(true) => ExitCode::SUCCESS,
@@ -71,7 +73,7 @@ fn understand(words: &[OsString]) -> Result<(Page, &[OsString]), Failure> {
         paths => (Page::Iso8859_1, paths),
     };
     match paths.iter().find(|word| word.as_bytes().starts_with(b"-")) {
-        Some(word) => Err(joined(&[word, &": no option in this place; a file of that name is ./", word])),
+        Some(word) => Err(joined(&[word, &": no option in this place; a file of that name is ./", word, &"\n", &USAGE])),
         None => Ok((page, paths)),
     }
 }
@@ -121,14 +123,14 @@ fn examine(page: Page, file: &[u8], out: &mut impl Write) -> io::Result<Option<O
         Ok(Judgement { payments, euros, cents }) => {
             writeln!(out, "sound on {page}: {payments} payments, {euros} euros and {cents} cents")?;
         }
-        Err(refusal) => return refused(refusal, out),
+        Err(refusal) => return refused(page, refusal, out),
     }
 
     let mut forwarded = vec![0; file.len()];
     let mut notes = vec![0; file.len()];
     match desk::prepare(page, file, LISTS, &mut forwarded, &mut notes) {
         Ok(count) => notes.truncate(count),
-        Err(refusal) => return refused(refusal, out),
+        Err(refusal) => return refused(page, refusal, out),
     }
     tell_changes(&forwarded, &notes, out)?;
 
@@ -139,8 +141,8 @@ fn examine(page: Page, file: &[u8], out: &mut impl Write) -> io::Result<Option<O
     Ok(the_very_file.then_some(Outgoing { forwarded, notes }))
 }
 
-fn refused(refusal: Refusal, out: &mut impl Write) -> io::Result<Option<Outgoing>> {
-    writeln!(out, "refused: {refusal}")?;
+fn refused(page: Page, refusal: Refusal, out: &mut impl Write) -> io::Result<Option<Outgoing>> {
+    writeln!(out, "refused on {page}: {refusal}")?;
     Ok(None)
 }
 
