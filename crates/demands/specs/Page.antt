@@ -23,17 +23,18 @@ Page page = (page ≡ 0) ⊎ (page ≡ 1)
 abbrev pub TablesStay : Type 0
 TablesStay = (page : ℕ) → Page page → OwnReplacement (rep page)
 
--- "C4, D6, DC and DF for the four German characters"; "Under 1, hex 5B, 5C, 5D and 7E become spaces like any unlisted byte,
--- small umlauts among them." Of page 0 document 01 says the same the other way round
-abbrev pub capitals : List ℕ
-capitals = 0x5B ∷ 0x5C ∷ 0x5D ∷ 0x7E ∷ 0xC4 ∷ 0xD6 ∷ 0xDC ∷ 0xDF ∷ []
+-- the four German characters at their codes on page 0 and on page 1, and the small umlauts. "C4, D6, DC and DF for the four
+-- German characters"; "Under 1, hex 5B, 5C, 5D and 7E become spaces like any unlisted byte, small umlauts among them."; of
+-- page 0 document 01: "hex 5B becomes A, 5C O, 5D U, 7E S. Every other byte [..] becomes a space"
+abbrev pub codes : List ℕ
+codes = 0x5B ∷ 0x5C ∷ 0x5D ∷ 0x7E ∷ 0xC4 ∷ 0xD6 ∷ 0xDC ∷ 0xDF ∷ []
 
 abbrev pub small : List ℕ
 small = 0x7B ∷ 0x7C ∷ 0x7D ∷ 0xE4 ∷ 0xF6 ∷ 0xFC ∷ []
 
 pub record GermanRead : Type 0 where
-  pub on-page-0 : text 0 capitals ≡ ascii "AOUS    "
-  pub on-page-1 : text 1 capitals ≡ ascii "    AOUS"
+  pub on-page-0 : text 0 codes ≡ ascii "AOUS    "
+  pub on-page-1 : text 1 codes ≡ ascii "    AOUS"
   pub small-on-page-0 : text 0 small ≡ ascii "      "
   pub small-on-page-1 : text 1 small ≡ ascii "      "
 
