@@ -1,18 +1,21 @@
 -- The tests and the value of a list as loops carry them along, and the bound of a value.
 use Prim.Native.Nat.{ℕ, suc, _+_, _*_, _^_, _-_, _<_, _≤_}
+use Prim.Native.Char.{code}
 use mathlib.Core.Path.{_≡_, refl, sym, ap, _∙_}
-use mathlib.Core.Bool.{Bool, true, false, _&&_, _||_, cond, and-true, or-false, and-assoc, or-assoc, and-false}
+use mathlib.Core.Bool.{Bool, true, false, _&&_, _||_, cond, and-true, or-false, and-assoc, or-assoc, and-false, or-true, false≢true}
 use mathlib.Core.List.{List, [], _∷_}
 use native.Mathlib.Nat.{pow-suc, pow-le-pow-right}
 use native.Mathlib.Numerals.{add-one}
 use native.Mathlib.Omega.{arith}
-use borrow.Author.Tests.{leb-true}
+use borrow.Author.Tests.{leb-true, eqb-true}
 use lib.Dec.{eqb, leb, lit<}
 use lib.ListN.{length, drop, getD, length-drop}
+use Rattle.laws.specs.Ascii.{ascii}
 use Rattle.laws.specs.Steps.{fold, next, next-two}
 use Rattle.fields.specs.Class.{member, every, allOf, same}
 use Rattle.fields.specs.declared.Class.{Class}
-use Rattle.charset.specs.Table.{rep, text}
+use Rattle.fields.specs.declared.Class.the-variants.{Digit, Zero, Space, Capital, CapitalOrDigit}
+use Rattle.charset.specs.Table.{within, among, unchanged, rep, text, unchanged-rep}
 use Rattle.fields.specs.Number.{digitOf, dec}
 use Rattle.fields.specs.Lists.{some, countries}
 
@@ -24,12 +27,33 @@ pub some-fold : {A : Type 0} (test : A → Bool) (a : Bool) (s : List A) → fol
 some-fold test a [] = sym (or-false a)
 some-fold test a (x ∷ s) = some-fold test (a || test x) s ∙ or-assoc a (test x) (some test s)
 
--- a turn over text: b is the replaced character, t the test's answer
-pub text-turn : (page : ℕ) (c : Class) (s : List ℕ) (i : ℕ) (whole t : Bool) (b : ℕ) → i < length s
-    → allOf c (text page (drop i s)) ≡ whole → b ≡ rep page (getD s i 0) → t ≡ member c b
+-- what is of a class is unchanged, and so it is of the class when it is replaced
+first-or-third : (x y z w : Bool) → x || z ≡ true → x || y || z || w ≡ true
+first-or-third true y z w e = refl
+first-or-third false true z w e = refl
+first-or-third false false true w e = refl
+first-or-third false false false w e = absurd (false≢true e)
+
+alphanumeric : (b : ℕ) → member CapitalOrDigit b ≡ true → unchanged b ≡ true
+alphanumeric b e =
+    first-or-third (within (code "A") (code "Z") b) (within (code "a") (code "z") b) (within (code "0") (code "9") b) (among (ascii " .,-/+%") b) e
+
+member-unchanged : (c : Class) (b : ℕ) → member c b ≡ true → unchanged b ≡ true
+member-unchanged Digit b e = alphanumeric b (ap (λ (t : Bool). member Capital b || t) e ∙ or-true (member Capital b))
+member-unchanged Zero b e = ap unchanged (eqb-true b (code "0") e)
+member-unchanged Space b e = ap unchanged (eqb-true b (code " ") e)
+member-unchanged Capital b e = alphanumeric b (ap (λ (t : Bool). t || member Digit b) e)
+member-unchanged CapitalOrDigit b e = alphanumeric b e
+
+pub member-rep : (page : ℕ) (c : Class) (b : ℕ) → member c b ≡ true → member c (rep page b) ≡ true
+member-rep page c b e = ap (member c) (unchanged-rep page b (member-unchanged c b e)) ∙ e
+
+-- a turn over text: t is the answer of the test of the replaced character
+pub text-turn : (page : ℕ) (c : Class) (s : List ℕ) (i : ℕ) (whole t : Bool) → i < length s
+    → allOf c (text page (drop i s)) ≡ whole → t ≡ member c (rep page (getD s i 0))
     → t && allOf c (text page (drop (i + 1) s)) ≡ whole
 unfolding allOf
-text-turn page c s i whole t b h e p q = rw (q, p) (rw (next s i 0 h) at e)
+text-turn page c s i whole t h e q = rw q (rw (next s i 0 h) at e)
 
 -- a list's countries from place i on
 pub countries-next : (s : List ℕ) (i : ℕ) → i + 1 < length s

@@ -2,7 +2,7 @@
 ghost use mathlib.Core.Path.{_≡_};
 ghost use Prim.Native.Nat.{_≤_};
 ghost use lib.ListN.{length};
-ghost use Rattle.charset.specs.Table.{text};
+ghost use Rattle.charset.specs.Table.{rep, text};
 ghost use Rattle.fields.specs.Class.{member, allOf, blank, same};
 ghost use Rattle.fields.specs.Number.{digitOf, dec, daysOf, isDate};
 ghost use Rattle.fields.specs.Bic.{bicShape};
@@ -41,15 +41,24 @@ pub fn all(c: Class, s: &[u8]) -> bool
     ok
 }
 
+// A replaced character is of the class. One that is so as it stands is unchanged, so the table is asked for the others alone.
+fn text_belongs(page: u32, c: Class, was: u8) -> bool
+    ensures { λ r. ⌜ r ≡ member c (rep page was) ⌝ }
+{
+    if belongs(c, was) {
+        return true;
+    }
+    let b = charset::replaced(page, was);
+    belongs(c, b)
+}
+
 // Every replaced character is of the class. A text that is no blank mostly says so at its first character.
 pub fn all_text(page: u32, c: Class, s: &[u8]) -> bool
     ensures { λ r. ⌜ r ≡ allOf c (text page (now (s .entry))) ⌝ }
 {
     let mut i = 0;
     while i < s.len() {
-        let was = s[i];
-        let b = charset::replaced(page, was);
-        if !belongs(c, b) {
+        if !text_belongs(page, c, s[i]) {
             return false;
         }
         i += 1;

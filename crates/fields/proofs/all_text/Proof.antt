@@ -18,15 +18,13 @@ abbrev μ-loop : tie.MeasureT-loop
 
 returns : tie.Need-returns Inv-loop μ-loop
 returns c =
-    rw (not-true (c .before .belongs .result) (c .if1 .taken))
-    at (text-turn _ _ _ _ _ _ _ (c .before .before .before .before .loop-test .taken) (c .before .before .before .before .before .loop .inv)
-    (c .before .before .replaced .ensures) (c .before .belongs .ensures))
+    rw (not-true (c .before .text-belongs .result) (c .if1 .taken))
+    at (text-turn _ _ _ _ _ _ (c .before .before .before .loop-test .taken) (c .before .before .before .before .loop .inv) (c .before .text-belongs .ensures))
 
 loop-again : tie.Need-loop-again Inv-loop μ-loop
 loop-again c =
-    rw (not-false (c .before .belongs .result) (c .if1 .left))
-    at (text-turn _ _ _ _ _ _ _ (c .before .before .before .before .loop-test .taken) (c .before .before .before .before .before .loop .inv)
-    (c .before .before .replaced .ensures) (c .before .belongs .ensures))
+    rw (not-false (c .before .text-belongs .result) (c .if1 .left))
+    at (text-turn _ _ _ _ _ _ (c .before .before .before .loop-test .taken) (c .before .before .before .before .loop .inv) (c .before .text-belongs .ensures))
 
 returns-2 : tie.Need-returns-2 Inv-loop μ-loop
 unfolding allOf
@@ -40,7 +38,6 @@ all-text-spec =
     μ-loop
     (λ c. refl)
     (λ c. search needs)
-    (λ c κs. search needs)
     (λ c κs. search needs)
     returns
     (λ c. search needs)
