@@ -47,14 +47,14 @@ pub fn none(s: &[u8]) -> bool
     ok
 }
 
-fn q_record(rec: &[u8]) -> usize
+pub fn q_record(rec: &[u8]) -> usize
     requires { ⌜ length (now rec) ≡ 256 ⌝ }
     ensures { λ r. ⌜ r ≡ fieldChanges qTexts (now (rec .entry)) ⌝ }
 {
     field(records::part(rec, Q::text(1)))
 }
 
-fn t_record(rec: &[u8]) -> usize
+pub fn t_record(rec: &[u8]) -> usize
     requires { ⌜ length (now rec) ≡ 768 ⌝ }
     ensures { λ r. ⌜ r ≡ fieldChanges tTexts (now (rec .entry)) ⌝ }
 {

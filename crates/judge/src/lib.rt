@@ -56,7 +56,7 @@ fn fault(
 }
 
 // The rules of record k: from its first up to below its end.
-fn rule_from(n: usize, k: usize) -> usize
+pub fn rule_from(n: usize, k: usize) -> usize
     ensures { λ r. ⌜ r ≡ ruleFrom n k ⌝ }
 {
     if k == 0 {
@@ -68,7 +68,7 @@ fn rule_from(n: usize, k: usize) -> usize
     40
 }
 
-fn rule_end(n: usize, k: usize) -> usize
+pub fn rule_end(n: usize, k: usize) -> usize
     ensures { λ r. ⌜ r ≡ ruleEnd n k ⌝ }
 {
     if k == 0 {
@@ -108,14 +108,14 @@ fn content(page: u32, file: &[u8], n: usize, euros: u64, transfer: &[u8], cheque
 }
 
 // What a payment adds to the sums: whole euros, and cents.
-fn euros_of(rec: &[u8]) -> u64
+pub fn euros_of(rec: &[u8]) -> u64
     requires { ⌜ length (now rec) ≡ 768 ⌝ }
     ensures { λ r. ⌜ r ≡ euros (now (rec .entry)) ⌝ }
 {
     fields::value(T::field(rec, TField::T14a))
 }
 
-fn cents_of(rec: &[u8]) -> u64
+pub fn cents_of(rec: &[u8]) -> u64
     requires { ⌜ length (now rec) ≡ 768 ⌝ }
     ensures { λ r. ⌜ r ≡ cents (now (rec .entry)) ⌝ }
 {
@@ -146,7 +146,7 @@ fn sum(file: &[u8], n: usize) -> Totals
 }
 
 // The 18 digits of Q4, Q6 and Q7 as one whole number.
-fn number_of(q: &[u8]) -> u64
+pub fn number_of(q: &[u8]) -> u64
     requires { ⌜ length (now q) ≡ 256 ⌝ }
     ensures { λ r. ⌜ r ≡ fileNumber (now (q .entry)) ⌝ }
 {
@@ -156,7 +156,7 @@ fn number_of(q: &[u8]) -> u64
     q4 * 100000000 + q6 * 100 + q7
 }
 
-fn refusal(number: usize, rec: usize, at: usize) -> Verdict
+pub fn refusal(number: usize, rec: usize, at: usize) -> Verdict
     ensures { λ r. ⌜ r ≡ refused number rec at ⌝ }
 {
     Verdict {

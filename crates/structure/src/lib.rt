@@ -16,7 +16,7 @@ pub enum Shape {
     Refused(usize, usize),
 }
 
-fn width_at(k: usize) -> usize
+pub fn width_at(k: usize) -> usize
     ensures { λ r. ⌜ r ≡ widthAt k ⌝ }
 {
     if k == 0 {

@@ -1,0 +1,3 @@
+pub mod Record
+pub mod Settle
+pub mod Conclude
