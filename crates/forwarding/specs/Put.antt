@@ -23,7 +23,7 @@ module _ (k : ℕ) (xs zs : List ℕ) (fits : k + length xs ≤ length zs) where
   split : put k xs zs ≡ (take k zs ++ xs) ++ drop (k + length xs) zs
   split = sym (append-assoc (take k zs) xs (drop (k + length xs) zs))
 
-  take-put : take (k + length xs) (put k xs zs) ≡ take k zs ++ xs
+  pub take-put : take (k + length xs) (put k xs zs) ≡ take k zs ++ xs
   take-put = ap (take (k + length xs)) split ∙ take-at (take k zs ++ xs) (drop (k + length xs) zs) (k + length xs) head
 
   drop-put : (n : ℕ) → drop (k + length xs + n) (put k xs zs) ≡ drop (k + length xs + n) zs
