@@ -1,51 +1,77 @@
-// The desk: reads a file on standard input and prints what it finds of it, in seven lines.
+// The desk: reads a file of any length on standard input and prints what it finds of it, in seven lines.
 use libc::STDIN_FILENO;
 use libc::STDOUT_FILENO;
+use reader::Reader;
 use report::Report;
-ghost use Prim.Native.Nat.{_≤_};
-ghost use lib.ListN.{length};
-ghost use Rattle.io.specs.Counts.{Counts};
+ghost use mathlib.Core.Path.{_≡_};
+ghost use Prim.Native.Nat.{_-_};
+ghost use Rattle.desk.specs.Input.{Fed, Reads};
 
-// How many bytes were read; failed where a read answered an error.
-struct Input {
+// A reader after a read, how many bytes that brought, and whether it answered an error.
+struct Piece {
+    reader: Reader,
     count: usize,
     failed: bool,
 }
 
-// One read into the room.
-fn read_some(room: &mut [u8]) -> Input
-    ensures { λ r. ⌜ r .count ≤ length (now (room .exit)) ⌝ }
+// A reader after all of the input; failed where a read answered an error.
+struct Input {
+    reader: Reader,
+    failed: bool,
+}
+
+// One read, by way of the room.
+fn read_piece(reader: Reader, room: &mut [u8]) -> Piece
+    ensures { λ r. ⌜ Fed reader (r .reader) ⌝ }
 {
     let got = libc::read(STDIN_FILENO, room);
-    Input {
-        count: io::count(got, room),
+    let count = io::count(got, room);
+    let next = report::read_on(reader, &room[..count]);
+    Piece {
+        reader: next,
+        count,
         failed: got < 0,
     }
 }
 
-// Reads until the input ends, the room is full or a read fails.
-fn read_input(room: &mut [u8]) -> Input
-    ensures { λ r. ⌜ Counts (r .count) (now (room .exit)) ⌝ }
+// How many bytes may still come before the file is too long.
+fn less(left: usize, count: usize) -> usize
+    ensures { λ r. ⌜ r ≡ left - count ⌝ }
 {
-    let mut count = 0;
-    while count < room.len() {
-        let more = read_some(&mut room[count..]);
-        if more.failed {
+    if left < count {
+        return 0;
+    }
+    left - count
+}
+
+// Reads until the input ends, a read fails, or one byte more has come than a file may have, after which no byte changes
+// the answer.
+fn read_input(room: &mut [u8]) -> Input
+    ensures { λ r. ⌜ Reads (r .reader) ⌝ }
+{
+    let mut reader = report::start();
+    let mut left = 7679745;
+    while 0 < left {
+        let piece = read_piece(reader, room);
+        let next = piece.reader;
+        reader = next;
+        let count = piece.count;
+        if piece.failed {
             return Input {
-                count,
+                reader,
                 failed: true,
             };
         }
-        if more.count == 0 {
+        if count == 0 {
             return Input {
-                count,
+                reader,
                 failed: false,
             };
         }
-        count += more.count;
+        left = less(left, count);
     }
     Input {
-        count,
+        reader,
         failed: false,
     }
 }
@@ -73,6 +99,6 @@ fn main() {
         os::fail(b"desk: standard input cannot be read");
         return;
     }
-    let count = input.count;
-    print_report(report::tell(&space[..count]));
+    let reader = input.reader;
+    print_report(report::tell(reader));
 }

@@ -1,8 +1,11 @@
 // The calls for hosts in C. Lent slices pass as pointer and count.
 use judge::Verdict;
 use prepare::Prepared;
+use reader::Read;
+use reader::Reader;
 use restore::Restored;
 ghost use Rattle.judge.specs.Verdict.{JudgedAs};
+ghost use Rattle.reader.specs.State.{NewAs, FedAs, EndedAs};
 ghost use Rattle.prepare.specs.Prepared.{PreparedAs};
 ghost use Rattle.restore.specs.Restored.{RestoredAs};
 ghost use Rattle.host.specs.Answers.{CodedAs, PlacedAs};
@@ -28,6 +31,33 @@ pub extern "C" fn desk_judge_full(
     ensures { λ r. ⌜ JudgedAs page (now (file .entry)) (now (transfer .entry)) (now (cheque .entry)) (now (taken .entry)) r ⌝ }
 {
     judge::judge(page, file, transfer, cheque, taken)
+}
+
+// A reader is a value: it is handed in, and comes back changed.
+#[no_mangle]
+pub extern "C" fn desk_reader_new(page: u32) -> Reader
+    ensures { λ r. ⌜ NewAs page r ⌝ }
+{
+    Reader::new(page)
+}
+
+#[no_mangle]
+pub extern "C" fn desk_reader_feed(
+    reader: Reader,
+    cut: &[u8],
+    transfer: &[u8],
+    cheque: &[u8],
+) -> Reader
+    ensures { λ r. ⌜ FedAs reader (now (cut .entry)) (now (transfer .entry)) (now (cheque .entry)) r ⌝ }
+{
+    reader.feed(cut, transfer, cheque)
+}
+
+#[no_mangle]
+pub extern "C" fn desk_reader_end(reader: Reader, taken: &[u64]) -> Read
+    ensures { λ r. ⌜ EndedAs reader (now (taken .entry)) r ⌝ }
+{
+    reader.end(taken)
 }
 
 #[no_mangle]

@@ -12,6 +12,7 @@ ghost use Rattle.judge.specs.Sums.{euros, cents, euroSum, centSum, fileN
 ghost use Rattle.judge.specs.Verdict.{refused, verdictOf, JudgedAs};
 
 // The first broken rule, its record, and the place there of the field that breaks it; zeros where none is broken.
+#[repr(C)]
 pub struct Breach {
     pub number: usize,
     pub rec: usize,

@@ -1,3 +1,2 @@
 pub mod Annexes
 pub mod Report
-pub mod Told

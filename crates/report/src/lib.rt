@@ -1,7 +1,8 @@
-// What the program says of its input: its seven numbers.
-use judge::Verdict;
+// What the program says of its input: its seven numbers. It reads the input in pieces, as they come.
+use reader::Answer;
+use reader::Reader;
 ghost use mathlib.Core.Path.{_≡_};
-ghost use Rattle.report.specs.Report.{lines, ToldAs};
+ghost use Rattle.report.specs.Report.{lines, StartedAs, ReadOnAs, SaidAs};
 
 // Annex II and Annex I of source document 000, in document order.
 const ANNEX_II: [u8; 312] = *b"\
@@ -19,9 +20,6 @@ const ANNEX_I: [u8; 44] = *b"ARBOBRCLCRDOSVECGTGBHNCACOMXNIPAPYPEPRUYUSVE";
 // The code page that the program reads text by: ISO 8859-1.
 const PAGE: u32 = 1;
 
-// What the program holds: 84 T records.
-const ROOM: usize = 65024;
-
 pub struct Report {
     pub verdict: usize,
     pub rec: usize,
@@ -32,9 +30,10 @@ pub struct Report {
     pub changes: usize,
 }
 
-fn lines(found: Verdict, changes: usize) -> Report
-    ensures { λ r. ⌜ r ≡ lines found changes ⌝ }
+fn lines(answer: Answer) -> Report
+    ensures { λ r. ⌜ r ≡ lines answer ⌝ }
 {
+    let found = answer.verdict;
     Report {
         verdict: found.number,
         rec: found.rec,
@@ -42,31 +41,32 @@ fn lines(found: Verdict, changes: usize) -> Report
         payments: found.payments,
         euros: found.euros,
         cents: found.cents,
-        changes,
+        changes: answer.changes,
     }
 }
 
-pub fn tell(input: &[u8]) -> Report
-    ensures { λ r. ⌜ ToldAs (now (input .entry)) r ⌝ }
+// Before anything was read.
+pub fn start() -> Reader
+    ensures { λ r. ⌜ StartedAs r ⌝ }
 {
-    if ROOM < input.len() {
-        let over = Verdict {
-            number: 6,
-            rec: 0,
-            at: 0,
-            payments: 0,
-            euros: 0,
-            cents: 0,
-        };
-        return lines(over, 0);
-    }
+    Reader::new(PAGE)
+}
+
+// The next piece of the input.
+pub fn read_on(reader: Reader, piece: &[u8]) -> Reader
+    ensures { λ r. ⌜ ReadOnAs reader (now (piece .entry)) r ⌝ }
+{
     let transfer = ANNEX_II;
     let cheque = ANNEX_I;
+    reader.feed(piece, &transfer, &cheque)
+}
+
+// What is told where the input ends. No number is taken.
+pub fn tell(reader: Reader) -> Report
+    ensures { λ r. ⌜ SaidAs reader r ⌝ }
+{
     let none = [0u64; 1];
-    let found = judge::judge(PAGE, input, &transfer, &cheque, &none[..0]);
-    let number = found.number;
-    if number != 0 {
-        return lines(found, 0);
-    }
-    lines(found, count::file(input))
+    let read = reader.end(&none[..0]);
+    let answer = read.answer;
+    lines(answer)
 }

@@ -1,21 +1,17 @@
-use Prim.Native.Nat.{ℕ, _-_, _≤_}
-use mathlib.Core.Path.{_≡_, sym}
-use mathlib.Core.List.{List}
-use lib.ListN.{length}
-use lib.Seq.{length-take-le}
 use borrow.Author.Needs.{needs}
-use Rattle.io.specs.Counts.{Counts}
+use native.Mathlib.Omega.{arith}
+use mathlib.Core.Path.{_≡_}
+use mathlib.Core.List.{[]}
+use lib.ListN.{length}
+use Rattle.desk.specs.Input.{Reads, one-more}
 use Rattle.desk.proofs.read_input.Statement.{statement}
 use Rattle.desk.proofs.read_input.Tie as tie
 
-counts : (n : ℕ) (xs : List ℕ) → n ≤ length xs → Counts n xs
-counts n xs h = (h, sym (length-take-le n xs h))
-
 abbrev Inv-loop : tie.InvT-loop
-Inv-loop room₀ count₀ room count = (length room ≡ length room₀) × (count ≤ length room)
+Inv-loop room₀ reader₀ left₀ room reader left = (length room ≡ length room₀) × Reads reader
 
 abbrev μ-loop : tie.MeasureT-loop
-μ-loop room₀ count₀ room count = length room - count
+μ-loop room₀ reader₀ left₀ room reader left = left
 
 pub read-input-spec : {M : Type 1} → statement M
 read-input-spec =
@@ -23,17 +19,15 @@ read-input-spec =
     (tie.spec
     Inv-loop
     μ-loop
-    (λ c. search needs)
-    (λ c. search needs)
-    (λ c. search needs)
-    (λ c. search needs)
+    (λ c κs. search needs)
+    (λ c. (search needs, ([], c .start .ensures)))
     (λ c κs. search needs)
     (λ c. search needs)
-    (λ c. counts _ _ (search needs))
+    (λ c. one-more _ _ (c .before .before .before .before .before .before .before .loop .inv .1) (c .before .before .before .before .read-piece .ensures))
     (λ c. search needs)
-    (λ c. counts _ _ (search needs))
+    (λ c. one-more _ _ (c .before .before .before .before .before .before .before .before .loop .inv .1) (c .before .before .before .before .before .read-piece .ensures))
+    (λ c κs. search needs)
+    (λ c. omega (arith, c .less .ensures, c .before .if2 .left, c .before .before .before .before .before .before .before .before .loop-test .taken))
+    (λ c. (search needs, one-more _ _ (c .before .before .before .before .before .before .before .before .before .loop .inv .1) (c .before .before .before .before .before .before .read-piece .ensures)))
     (λ c. search needs)
-    (λ c. search needs)
-    (λ c. search needs)
-    (λ c. search needs)
-    (λ c. counts _ _ (search needs)))
+    (λ c. c .before .loop .inv .1))
