@@ -69,9 +69,14 @@ enum desk_number {
 /* The judge's answer has grown (at), and three calls have got the page as their first argument: a host that was built with
    an older header is to be compiled anew. */
 typedef struct { uint64_t number, record, at, payments, euros, cents; } desk_judgement;
+typedef struct { uint64_t number, record, at, payments, euros, cents, changes; } desk_answer;
 typedef struct { uint64_t number, record, notes; } desk_prepared;
 typedef struct { uint64_t number, record; } desk_restored;
 typedef struct { uint64_t start, length; } desk_part;
+
+/* A reader is a value, which may be copied and stored. What is in it is the desk's own. */
+typedef struct { uint64_t own[118]; } desk_reader;
+typedef struct { desk_reader reader; desk_answer answer; } desk_read;
 
 /* Judges a file on page 0 (DIN 66003) without taken numbers: record * 100 + number; 0 for a sound file. For a file in ISO
    8859-1 there is desk_judge_full with page 1; here its umlauts would be read as spaces.
@@ -87,6 +92,21 @@ uint64_t desk_judge(const uint8_t *file, size_t n,
 desk_judgement desk_judge_full(uint32_t page, const uint8_t *file, size_t n,
                                const uint8_t *transfer, size_t nt, const uint8_t *cheque, size_t nc,
                                const uint64_t *taken, size_t taken_n);
+
+/* Judges a file as it arrives, in cuts of any size, empty ones too: a new reader, each cut in turn, and then the end. The
+   reader is handed in, and comes back changed.
+       desk_reader r = desk_reader_new(DESK_ISO_8859_1);
+       while (there is a cut) r = desk_reader_feed(r, cut, n, transfer, nt, cheque, nc);
+       desk_answer answer = desk_reader_end(r, taken, taken_n).answer;
+   The page is named at the start, the country lists are lent with each cut, and the taken numbers at the end. A payment is
+   judged by the lists of the cut that holds its last byte. Where all cuts came with the same lists, the answer is that of
+   desk_judge_full over all bytes; changes is how many characters prepare would change, and 0 where the file is refused.
+   No cut at all: 2 at record 0. The first end decides: asked again, the reader that it gave back answers the same, whatever
+   numbers are lent, and cuts that are handed to it change nothing. A reader that no call gave back is 2 at record 0, or 7. */
+desk_reader desk_reader_new(uint32_t page);
+desk_reader desk_reader_feed(desk_reader reader, const uint8_t *cut, size_t n,
+                             const uint8_t *transfer, size_t nt, const uint8_t *cheque, size_t nc);
+desk_read desk_reader_end(desk_reader reader, const uint64_t *taken, size_t taken_n);
 
 /* Prepares a file for forwarding. 7 first, then soundness, 60 and 61. Number 0: out begins with the forwarded file and
    notes with a note for each changed character, by rising place: place in the file * 256 + original byte; the rest of both
