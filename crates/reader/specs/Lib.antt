@@ -1,2 +1,4 @@
+pub mod Cuts
 pub mod State
 pub mod Eats
+pub mod Course

@@ -2,7 +2,7 @@
 -- came to and could not pass. The bound of the search never answers: a file of at most 7,679,744 bytes ends before it.
 use Prim.Native.Nat.{ℕ, _+_, _*_, _-_, _≤_, _<_}
 use Prim.Native.Char.{code}
-use mathlib.Core.Path.{_≡_, refl, sym, ap, subst, _∙_}
+use mathlib.Core.Path.{_≡_, refl, sym, ap, ap₂, subst, _∙_}
 use mathlib.Core.Bool.{Bool, true, false, _||_, not, cond, true≢false}
 use mathlib.Core.List.{List}
 use mathlib.Core.Logic.{_⊎_, inl, inr, ⊎-elim}
@@ -111,21 +111,43 @@ tells file = go (ltb 7679744 (length file)) refl
 pub fits : (file : List ℕ) (n : ℕ) → structureOf file ≡ Fits n → Fit file n
 fits file n e = (rw e at (tells file)) .1
 
--- and the other way round: whole records up to a Z are what the walk finds
-pub fit-found : (file : List ℕ) (n : ℕ) → Fit file n → structureOf file ≡ Fits n
-fit-found file n f = go (structureOf file) (tells file)
+-- a file that fits is stuck nowhere
+fit-stuck : (file : List ℕ) (n number k : ℕ) → Fit file n → Stuck file number k → ⊥
+fit-stuck file n number k f s = go (leb k (n + 1)) refl
   where
-    stuck : (number k : ℕ) → Stuck file number k → (b : Bool) → leb k (n + 1) ≡ b → ⊥
-    stuck number k s false e = s .due (n + 1) (leb-false k (n + 1) e) .no-z (f .z)
-    stuck number k s true e =
+    go : (b : Bool) → leb k (n + 1) ≡ b → ⊥
+    go false e = s .due (n + 1) (leb-false k (n + 1) e) .no-z (f .z)
+    go true e =
         ⊎-elim
         (λ (q : k ≡ n + 1). s .real (sym (s .broken) ∙ subst (λ (j : ℕ). faultIn j (slotAt file j) ≡ 0) (sym q) (f .right)))
         (λ (l : k < n + 1). s .real (sym (s .broken) ∙ f .due k l .right))
         (eq-or-lt-of-le (leb-true k (n + 1) e))
 
+-- and the other way round: whole records up to a Z are what the walk finds
+pub fit-found : (file : List ℕ) (n : ℕ) → Fit file n → structureOf file ≡ Fits n
+fit-found file n f = go (structureOf file) (tells file)
+  where
     go : (s : Shape) → Tells file s → s ≡ Fits n
     go (Fits m) t =
         let same : m ≡ n = omega (arith, t .1 .long, f .long) in
         ap Fits same
     go (Refused number k) (inl t) = absurd (omega (arith, t .0, f .long, f .most))
-    go (Refused number k) (inr t) = absurd (stuck number k (t .1) (leb k (n + 1)) refl)
+    go (Refused number k) (inr t) = absurd (fit-stuck file n number k f (t .1))
+
+-- and so is the first record that it cannot pass, of a file that is not too long
+pub stuck-found : (file : List ℕ) (number k : ℕ) → length file ≤ 7679744 → Stuck file number k → structureOf file ≡ Refused number k
+stuck-found file number k short s = go (structureOf file) (tells file)
+  where
+    same : (m j : ℕ) → Stuck file m j → j ≡ k → Refused m j ≡ Refused number k
+    same m j t e =
+        ap₂ Refused (sym (t .broken) ∙ ap (λ (i : ℕ). faultIn i (slotAt file i)) e ∙ s .broken) e
+
+    go : (a : Shape) → Tells file a → a ≡ Refused number k
+    go (Fits n) t = absurd (fit-stuck file n number k (t .1) s)
+    go (Refused m j) (inl t) = absurd (omega (arith, t .0))
+    go (Refused m j) (inr t) = by (ltb j k) (ltb k j) refl refl
+      where
+        by : (a b : Bool) → ltb j k ≡ a → ltb k j ≡ b → Refused m j ≡ Refused number k
+        by true b p q = absurd (t .1 .real (sym (t .1 .broken) ∙ s .due j (ltb-true j k p) .right))
+        by false true p q = absurd (s .real (sym (s .broken) ∙ t .1 .due k (ltb-true k j q) .right))
+        by false false p q = same m j (t .1) (omega (arith, ltb-false j k p, ltb-false k j q))

@@ -1,3 +1,4 @@
 pub mod Record
+pub mod SoFar
 pub mod Settle
 pub mod Conclude
