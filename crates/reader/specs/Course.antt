@@ -10,9 +10,9 @@ use native.Mathlib.Omega.{arith}
 use native.Mathlib.Nat.{eq-or-lt-of-le}
 use borrow.Author.Tests.{eqb-true, eqb-false}
 use lib.Dec.{eqb, ltb, lit≤, lit<}
-use lib.ListN.{length, take, drop, getD, length-take, length-drop}
-use lib.Seq.{take-suc, getD-drop}
-use Rattle.laws.specs.Choice.{on-eq, off-eq}
+use lib.ListN.{length, take, drop, getD, length-take, length-drop, length-append}
+use lib.Seq.{drop-drop, drop-append-seam, take-suc, getD-drop}
+use Rattle.laws.specs.Choice.{on-eq, off-eq, on-lt, off-lt}
 use Rattle.records.specs.Places.{recordAt}
 use Rattle.structure.specs.Slots.{widthAt, slotAt, place-is, later-width}
 use Rattle.structure.specs.Walk.{letterOf, faultIn}
@@ -263,3 +263,81 @@ module _ (page : ℕ) (cuts : List Cut) where
         let n : m .tally .stop ≡ 0 → ⊥ = λ z. s .broken (sym (ap (λ (c : Tally). c .stop) (s .tally)) ∙ z) in
         subst (Course (place + 1)) (off-eq {y = m} _ n refl)
         (fine, inr (record { k = s .k; due = s .due; full = omega (arith, s .full); broken = s .broken; tally = s .tally; held = s .held }))
+
+  -- a cut: its bytes stand from that place on
+  cut-course : (t ch xs rest : List ℕ) (place : ℕ) (m : Mid) → drop place file ≡ xs ++ rest
+      → ((p : ℕ) → place ≤ p → p < place + length xs → (t ≡ holding cuts p .transfer) × (ch ≡ holding cuts p .cheque)) → Course place m
+      → Course (place + length xs) (eat page t ch m xs)
+  unfolding eat
+  cut-course t ch [] rest place m e h c =
+      let z : place + 0 ≡ place = omega arith in
+      rw z c
+  cut-course t ch (x ∷ xs) rest place m e h c =
+      let there : place < length file = omega (arith, length-drop place file, ap length e) in
+      let a : place + 0 ≡ place = omega arith in
+      let b : place + 1 + length xs ≡ place + suc (length xs) = omega arith in
+      let first : getD file place 0 ≡ x =
+      ap (λ (j : ℕ). getD file j 0) (sym a) ∙ sym (getD-drop place file 0 0) ∙ ap (λ (l : List ℕ). getD l 0 0) e in
+      let later : drop (place + 1) file ≡ xs ++ rest = sym (drop-drop 1 place file) ∙ ap (drop 1) e in
+      subst (λ (n : ℕ). Course n (eat page t ch (push page t ch m x) xs)) b
+      (cut-course t ch xs rest (place + 1) (push page t ch m x) later (λ p l u. h p (omega arith) (omega arith))
+      (subst (λ (y : ℕ). Course (place + 1) (push page t ch m y)) first
+      (step place there t ch m (h place (omega arith) (omega arith)) c)))
+
+  -- before the first byte
+  pub course-start : Course 0 (mid fresh [])
+  unfolding tallyAt
+  course-start =
+      (record { few = lit≤ tt; euros-fit = lit≤ tt; cents-fit = lit≤ tt; changes-fit = lit≤ tt }
+      , inl
+      (record {
+        k = 0;
+        due = λ j h. absurd (omega arith);
+        low = lit≤ tt;
+        high = lit< tt;
+        tally = refl;
+        held = refl;
+      }))
+
+  -- the cuts from that place on, which are those of cs
+  pub record From (place : ℕ) (cs : List Cut) : Type 0 where
+    pub within : place ≤ length file
+    pub bytes : drop place file ≡ joined cs
+    pub cut-at : (j : ℕ) → holding cuts (place + j) ≡ holding cs j
+
+  pub from-start : From 0 cuts
+  from-start = record { within = omega arith; bytes = refl; cut-at = λ j. let z : 0 + j ≡ j = omega arith in ap (holding cuts) z }
+
+  module _ (place : ℕ) (cut : Cut) (cs : List Cut) (from : From place (cut ∷ cs)) where
+    -- the first of them holds its own bytes
+    own : (p : ℕ) → place ≤ p → p < place + length (cut .bytes) → cut ≡ holding cuts p
+    own p low high =
+        let e : place + (p - place) ≡ p = omega arith in
+        let l : p - place < length (cut .bytes) = omega arith in
+        on-lt {x = cut} (holding cs (p - place - length (cut .bytes))) l refl ∙ sym (from .cut-at (p - place)) ∙ ap (holding cuts) e
+
+    pub from-next : From (place + length (cut .bytes)) cs
+    from-next =
+        record {
+          within = omega (arith, from .within, length-drop place file, ap length (from .bytes), length-append (cut .bytes) (joined cs));
+          bytes = sym (drop-drop (length (cut .bytes)) place file) ∙ ap (drop (length (cut .bytes))) (from .bytes) ∙ drop-append-seam (cut .bytes) (joined cs);
+          cut-at = λ j.
+              let a : place + length (cut .bytes) + j ≡ place + (length (cut .bytes) + j) = omega arith in
+              let b : length (cut .bytes) + j - length (cut .bytes) ≡ j = omega arith in
+              let l : length (cut .bytes) ≤ length (cut .bytes) + j = omega arith in
+              ap (holding cuts) a ∙ from .cut-at (length (cut .bytes) + j)
+              ∙ sym (off-lt {y = holding cs (length (cut .bytes) + j - length (cut .bytes))} cut l refl) ∙ ap (holding cs) b;
+        }
+
+    pub whole-cut : (m : Mid) → Course place m
+        → Course (place + length (cut .bytes)) (eat page (cut .transfer) (cut .cheque) m (cut .bytes))
+    whole-cut m c =
+        cut-course (cut .transfer) (cut .cheque) (cut .bytes) (joined cs) place m (from .bytes)
+        (λ p l h. (ap (λ (x : Cut). x .transfer) (own p l h), ap (λ (x : Cut). x .cheque) (own p l h))) c
+
+  -- the unfinished record does not fill its slot
+  pub course-short : (place : ℕ) (m : Mid) → place ≤ length file → Course place m → length (m .pending) < widthAt (m .tally .next)
+  course-short place m h (fine, inl r) =
+      let next : m .tally .next ≡ r .k = ap (λ (c : Tally). c .next) (r .tally) ∙ next-is (r .k) in
+      omega (arith, ap length (r .held), length-take (place - recordAt (r .k)) (drop (recordAt (r .k)) file), r .low, r .high, next-place (r .k), ap widthAt next)
+  course-short place m h (fine, inr s) = omega (arith, ap length (s .held), width-pos (m .tally .next))

@@ -2,3 +2,4 @@ pub mod Cuts
 pub mod State
 pub mod Eats
 pub mod Course
+pub mod Reading
