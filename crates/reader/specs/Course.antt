@@ -45,10 +45,10 @@ module _ (page : ℕ) (cuts : List Cut) where
   file = joined cuts
 
   module _ (k : ℕ) where
-    abbrev byQ : Tally
+    abbrev pub byQ : Tally
     byQ = withQ page (completing cuts k .transfer) (completing cuts k .cheque) (tallyAt k) (slotAt file k)
 
-    abbrev byT : Tally
+    abbrev pub byT : Tally
     byT = withT page (completing cuts k .transfer) (completing cuts k .cheque) (tallyAt k) (slotAt file k)
 
     tally-q : k ≡ 0 → byQ ≡ tallyAt (suc k)
@@ -58,6 +58,10 @@ module _ (page : ℕ) (cuts : List Cut) where
     tally-t : (k ≡ 0 → ⊥) → byT ≡ tallyAt (suc k)
     unfolding tallyAt
     tally-t n = off-eq byQ n refl
+
+  -- after Q and n T records, one T record more
+  pub later-is : (n : ℕ) → tallyAt (suc (suc n)) ≡ byT (suc n)
+  later-is n = sym (tally-t (suc n) (λ (q : suc n ≡ 0). omega arith))
 
   pub next-is : (k : ℕ) → tallyAt k .next ≡ k
   unfolding tallyAt

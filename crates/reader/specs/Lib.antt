@@ -2,4 +2,5 @@ pub mod Cuts
 pub mod State
 pub mod Eats
 pub mod Course
+pub mod Figures
 pub mod Reading

@@ -70,7 +70,7 @@ module _ (file : List ℕ) (short : length file ≤ 7679744) where
   ends : Reached file 10001 → ⊥
   ends due = let room = passed-room file 10000 (due 10000 (omega arith)) in omega (arith, room)
 
-  fit : (k : ℕ) → Reached file k → faultIn k (slotAt file k) ≡ 0 → letterOf (slotAt file k) ≡ code "Z" → Fit file (k - 1)
+  pub fit : (k : ℕ) → Reached file k → faultIn k (slotAt file k) ≡ 0 → letterOf (slotAt file k) ≡ code "Z" → Fit file (k - 1)
   fit k due right z =
       let room = ends-room file k right z in
       let back : k - 1 + 1 ≡ k = omega (arith, room .0) in
