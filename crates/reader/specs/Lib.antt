@@ -4,3 +4,4 @@ pub mod Eats
 pub mod Course
 pub mod Figures
 pub mod Reading
+pub mod Answers
