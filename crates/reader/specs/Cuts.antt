@@ -3,6 +3,7 @@
 -- where all cuts came with the same lists, equals the judge's over the joined bytes, with the number of changes (0 if
 -- refused). Structure still outranks content, and rule 1 outranks all but 7".
 use Prim.Native.Nat.{ℕ, _+_, _-_}
+use mathlib.Core.Path.{_≡_}
 use mathlib.Core.Bool.{cond}
 use mathlib.Core.List.{List, [], _∷_, _++_}
 use lib.Dec.{eqb, ltb}
@@ -66,3 +67,8 @@ unfoldable pub readingOf : ℕ → List Cut → List ℕ → Answer
 readingOf page cuts taken =
     let v = readJudged page cuts taken in
     record { verdict = v; changes = cond (eqb (v .number) 0) (length (notesOf page (joined cuts))) 0 }
+
+-- "where all cuts came with the same lists"
+abbrev pub LentWith : List ℕ → List ℕ → List Cut → Type 0
+LentWith transfer cheque [] = Unit {0}
+LentWith transfer cheque (cut ∷ cuts) = (cut .transfer ≡ transfer) × (cut .cheque ≡ cheque) × LentWith transfer cheque cuts

@@ -5,3 +5,4 @@ pub mod Course
 pub mod Figures
 pub mod Reading
 pub mod Answers
+pub mod OnePair
