@@ -1,21 +1,29 @@
--- What is known of the program's input: the reader at its end has been handed pieces, one after the other, and nothing else.
+-- What is known of the program's input: the reader at its end was handed pieces, one after the other, and nothing else.
 use Prim.Native.Nat.{ℕ}
-use mathlib.Core.Path.{_≡_, refl}
-use mathlib.Core.List.{List, [], _∷_}
+use mathlib.Core.Path.{refl}
+use mathlib.Core.List.{List, [], _∷_, _++_}
 use Rattle.reader.specs.declared.Reader.{Reader}
-use Rattle.report.specs.Report.{StartedAs, ReadOnAs}
+use Rattle.reader.specs.Cuts.{Cut}
+use Rattle.reader.specs.Reading.{fed-more, lent-more}
+use Rattle.report.specs.Annexes.{annexI, annexII}
+use Rattle.report.specs.Report.{StartedAs, ReadOnAs, HasRead}
 
 -- one piece more
 abbrev pub Fed : Reader → Reader → Type 0
 Fed r next = (piece : List ℕ) × ReadOnAs r piece next
 
--- the pieces are listed from the last to the first
-abbrev pub ReadTo : List (List ℕ) → Reader → Type 0
-ReadTo [] r = StartedAs r
-ReadTo (piece ∷ before) r = (last : Reader) × ReadTo before last × ReadOnAs last piece r
-
 abbrev pub Reads : Reader → Type 0
-Reads r = (pieces : List (List ℕ)) × ReadTo pieces r
+Reads r = (pieces : List Cut) × HasRead pieces r
+
+pub none-read : (r : Reader) → StartedAs r → Reads r
+none-read r s = ([], record { first = r; started = s; lists = tt; read = refl })
 
 pub one-more : (r next : Reader) → Reads r → Fed r next → Reads next
-one-more r next reads fed = (fed .0 ∷ reads .0, (r, reads .1, fed .1))
+one-more r next (pieces, h) fed =
+    let cut : Cut = record { bytes = fed .0; transfer = annexII; cheque = annexI } in
+    (pieces ++ (cut ∷ []), record {
+      first = h .first;
+      started = h .started;
+      lists = lent-more annexII annexI pieces cut (h .lists) (refl, refl);
+      read = fed-more (h .first) pieces r cut next (h .read) (fed .1);
+    })

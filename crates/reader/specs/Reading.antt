@@ -13,8 +13,8 @@ use Rattle.forwarding.specs.Put.{put, put-length, take-put}
 use Rattle.tally.specs.declared.Tally.{Tally}
 use Rattle.tally.specs.Settle.{fresh, isSteady, is-steady}
 use Rattle.reader.specs.declared.Reader.{Reader}
-use Rattle.reader.specs.Cuts.{Cut, joined}
-use Rattle.reader.specs.State.{Mid, mid, eat, pending, view, packed, withBytes, countedOf, inOrder, newOf, fedOf}
+use Rattle.reader.specs.Cuts.{Cut, joined, LentWith}
+use Rattle.reader.specs.State.{Mid, mid, eat, pending, view, packed, withBytes, countedOf, inOrder, newOf, fedOf, FedAs, FedTo}
 use Rattle.reader.specs.Eats.{width-le}
 use Rattle.reader.specs.Course.{Course, course-start, course-short, From, from-start, from-next, whole-cut}
 
@@ -110,3 +110,19 @@ all-from page cuts place (cut ∷ cs) from m r c s =
 pub all-read : (page : ℕ) (cuts : List Cut) → ReadAll page cuts (fedAll (newOf page) cuts)
 all-read page cuts =
     all-from page cuts 0 cuts (from-start page cuts) (mid fresh []) (newOf page) (course-start page cuts) (new-reader page)
+
+-- what is promised cut after cut is one state
+pub fed-all : (r : Reader) (cuts : List Cut) (last : Reader) → FedTo r cuts last → last ≡ fedAll r cuts
+fed-all r [] last fed = fed
+fed-all r (cut ∷ cuts) last fed = fed-all (fed .0) cuts last (fed .2) ∙ ap (λ (x : Reader). fedAll x cuts) (fed .1)
+
+-- one cut more at the end
+pub fed-more : (r : Reader) (cuts : List Cut) (last : Reader) (cut : Cut) (next : Reader) → FedTo r cuts last
+    → FedAs last (cut .bytes) (cut .transfer) (cut .cheque) next → FedTo r (cuts ++ (cut ∷ [])) next
+fed-more r [] last cut next fed more = (next, subst (λ (x : Reader). FedAs x (cut .bytes) (cut .transfer) (cut .cheque) next) fed more, refl)
+fed-more r (c ∷ cuts) last cut next fed more = (fed .0, fed .1, fed-more (fed .0) cuts last cut next (fed .2) more)
+
+pub lent-more : (t ch : List ℕ) (cuts : List Cut) (cut : Cut) → LentWith t ch cuts → (cut .transfer ≡ t) × (cut .cheque ≡ ch)
+    → LentWith t ch (cuts ++ (cut ∷ []))
+lent-more t ch [] cut w p = (p .0, p .1, tt)
+lent-more t ch (c ∷ cuts) cut w p = (w .0, w .1, lent-more t ch cuts cut (w .2) p)

@@ -15,6 +15,7 @@ use Rattle.forwarding.specs.Put.{put}
 use Rattle.tally.specs.declared.Tally.{Tally}
 use Rattle.tally.specs.Settle.{fresh, settleOf, isSteady}
 use Rattle.tally.specs.Conclude.{concludeOf}
+use Rattle.reader.specs.Cuts.{Cut}
 use Rattle.reader.specs.declared.Answer.{Answer}
 use Rattle.reader.specs.declared.Reader.{Reader}
 use Rattle.reader.specs.declared.Read.{Read}
@@ -124,6 +125,11 @@ FedAs r cut transfer cheque next = next ≡ fedOf r cut transfer cheque
 
 abbrev pub EndedAs : Reader → List ℕ → Read → Type 0
 EndedAs r taken read = read ≡ endOf r taken
+
+-- cut after cut, each as is promised
+abbrev pub FedTo : Reader → List Cut → Reader → Type 0
+FedTo r [] last = last ≡ r
+FedTo r (cut ∷ cuts) last = (next : Reader) × FedAs r (cut .bytes) (cut .transfer) (cut .cheque) next × FedTo next cuts last
 
 pub new-is : (page : ℕ) {tally : Tally} {answer : Answer} → tally ≡ fresh → answer ≡ answered (refused 0 0 0) 0
     → record { page = page; ended = 0; bytes = 0; tally = tally; answer = answer; have = 0; held = replicate 768 0 } ≡ newOf page

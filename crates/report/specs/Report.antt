@@ -12,7 +12,8 @@ use Rattle.judge.specs.declared.Verdict.{Verdict}
 use Rattle.forwarding.specs.Forwarded.{notesOf}
 use Rattle.reader.specs.declared.Answer.{Answer}
 use Rattle.reader.specs.declared.Reader.{Reader}
-use Rattle.reader.specs.State.{answered, endOf, NewAs, FedAs}
+use Rattle.reader.specs.Cuts.{Cut, LentWith}
+use Rattle.reader.specs.State.{answered, endOf, NewAs, FedAs, FedTo}
 use Rattle.report.specs.Annexes.{annexI, annexII}
 use Rattle.report.specs.declared.Report.{Report}
 
@@ -48,6 +49,13 @@ StartedAs r = NewAs programPage r
 
 abbrev pub ReadOnAs : Reader → List ℕ → Reader → Type 0
 ReadOnAs r piece next = FedAs r piece annexII annexI next
+
+-- the input in pieces, cut after cut, each with the two annexes
+pub record HasRead (pieces : List Cut) (r : Reader) : Type 0 where
+  pub first : Reader
+  pub started : StartedAs first
+  pub lists : LentWith annexII annexI pieces
+  pub read : FedTo first pieces r
 
 unfoldable pub saidOf : Reader → Report
 saidOf r = lines (endOf r [] .answer)

@@ -1,9 +1,8 @@
 use borrow.Author.Needs.{needs}
 use native.Mathlib.Omega.{arith}
 use mathlib.Core.Path.{_≡_}
-use mathlib.Core.List.{[]}
 use lib.ListN.{length}
-use Rattle.desk.specs.Input.{Reads, one-more}
+use Rattle.desk.specs.Input.{Reads, none-read, one-more}
 use Rattle.desk.proofs.read_input.Statement.{statement}
 use Rattle.desk.proofs.read_input.Tie as tie
 
@@ -20,7 +19,7 @@ read-input-spec =
     Inv-loop
     μ-loop
     (λ c κs. search needs)
-    (λ c. (search needs, ([], c .start .ensures)))
+    (λ c. (search needs, none-read _ (c .start .ensures)))
     (λ c κs. search needs)
     (λ c. search needs)
     (λ c. one-more _ _ (c .before .before .before .before .before .before .before .loop .inv .1) (c .before .before .before .before .read-piece .ensures))
