@@ -2,7 +2,7 @@
 -- a refused call keeps what it was lent.
 use Prim.Native.Nat.{ℕ}
 use mathlib.Core.Path.{_≡_, refl, sym, ap, _∙_}
-use mathlib.Core.Bool.{Bool, true, false}
+use mathlib.Core.Bool.{Bool, true, false, cond}
 use mathlib.Core.List.{List}
 use mathlib.Core.Logic.{_⊎_, inl, inr}
 use native.Mathlib.Omega.{arith}
@@ -72,33 +72,39 @@ module _ {own : Type 0} (n : ℕ) where
   not-7 other (inr (inl r)) e = rule-not-7 n r e
   not-7 other (inr (inr o)) e = other o e
 
-module _ (page : ℕ) (file transfer cheque taken : List ℕ) where
+-- a verdict whose number is 0 or a rule's, and the taken numbers
+module _ (v : Verdict) (file taken : List ℕ) (t : (v .number ≡ 0) ⊎ FileRule (v .number)) where
   abbrev JudgesTo : Verdict → Type 0
-  JudgesTo v = Usual (v .number ≡ 50) (v .number)
+  JudgesTo w = Usual (w .number ≡ 50) (w .number)
 
-  judges : JudgesTo (orTaken (verdictOf page file transfer cheque) file taken)
+  judges : JudgesTo (orTaken v file taken)
   judges =
-      let v = verdictOf page file transfer cheque in
-      let plain : JudgesTo v = wide (v .number) (told page file transfer cheque) in
+      let plain : JudgesTo v = wide (v .number) t in
       either JudgesTo (eqb (v .number) 0) _ _
       (either JudgesTo (isTaken taken (fileNumber (slotAt file 0))) _ _ (inr (inr refl)) plain) plain
 
-  judged-7 : orTaken (verdictOf page file transfer cheque) file taken .number ≡ 7 → ⊥
+  pub judged-7 : orTaken v file taken .number ≡ 7 → ⊥
   judged-7 = not-7 _ (λ o e. omega (arith, o, e)) judges
+
+-- and on any page
+pub on-any-page : (page : ℕ) (v : Verdict) (file taken : List ℕ) → (v .number ≡ 0) ⊎ FileRule (v .number)
+    → (let w = cond (isPage page) (orTaken v file taken) (refused 7 0 0) in Usual ((w .number ≡ 7) ⊎ (w .number ≡ 50)) (w .number))
+on-any-page page v file taken t =
+    either (λ (w : Verdict). Usual ((w .number ≡ 7) ⊎ (w .number ≡ 50)) (w .number)) (isPage page) _ _
+    (with-7 _ (judges v file taken t)) (inr (inr (inl refl)))
 
 pub judge-numbers : JudgeNumbers
 unfolding judgeOf
 judge-numbers page file transfer cheque taken answer promise =
-    rw promise
-    (either (λ (v : Verdict). Usual ((v .number ≡ 7) ⊎ (v .number ≡ 50)) (v .number)) (isPage page) _ _
-    (with-7 _ (judges page file transfer cheque taken)) (inr (inr (inl refl))))
+    rw promise (on-any-page page (verdictOf page file transfer cheque) file taken (told page file transfer cheque))
 
 pub judge-page : JudgePage
 unfolding judgeOf
 judge-page page file transfer cheque taken answer promise =
-    let x = orTaken (verdictOf page file transfer cheque) file taken in
-    let number : Verdict → ℕ = λ v. v .number in
-    (never-7 page number x (refused 7 0 0) answer promise (judged-7 page file transfer cheque taken), one-answer page number x (refused 7 0 0) answer promise)
+    let v = verdictOf page file transfer cheque in
+    let x = orTaken v file taken in
+    let number : Verdict → ℕ = λ w. w .number in
+    (never-7 page number x (refused 7 0 0) answer promise (judged-7 v file taken (told page file transfer cheque)), one-answer page number x (refused 7 0 0) answer promise)
 
 module _ (page : ℕ) (file transfer cheque out notes : List ℕ) where
   abbrev PreparesTo : Prepared → Type 0

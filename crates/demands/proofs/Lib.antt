@@ -17,6 +17,7 @@ pub mod Demand3
 pub mod There
 pub mod Show
 pub mod Settled
+pub mod Reading
 pub mod Program
 pub mod Pointed
 pub mod ShutOut

@@ -127,30 +127,17 @@ pub judge-at-zero : JudgeAtZero
 judge-at-zero page file transfer cheque taken answer promise =
     at-zero page transfer cheque file answer (subst (Pointed page file transfer cheque) (sym promise) (pointed page file transfer cheque taken))
 
--- the judge has no rule 6
-below-6 : (n : ℕ) → n ≤ 6 → (n ≡ 0) ⊎ (FileRule n ⊎ ((n ≡ 7) ⊎ (n ≡ 50))) → n ≤ 5
-below-6 n l (inl e) = omega (arith, e)
-below-6 n l (inr (inl (inl r))) = r .1
-below-6 n l (inr (inl (inr r))) = absurd (omega (arith, l, low n r))
-below-6 n l (inr (inr (inl e))) = absurd (omega (arith, l, e))
-below-6 n l (inr (inr (inr e))) = absurd (omega (arith, l, e))
-
 pub tell-at-zero : TellAtZero
-tell-at-zero input answer promise = go (ltb 65024 (length input)) refl
+tell-at-zero input answer promise = (λ z. to (both .0 z), λ l. both .1 (inl l))
   where
-    judged-as : length input ≤ 65024 → JudgedAs 1 input annexII annexI [] (verdictIn answer)
-    judged-as short = tell-answers input answer promise .judged short
+    both : (answer .at ≡ 0) ↔ ((answer .verdict ≤ 5) ⊎ ((answer .verdict ≡ 7) ⊎ (answer .verdict ≡ 50)))
+    both = judge-at-zero 1 input annexII annexI [] (verdictIn answer) (tell-answers input answer promise .judged)
 
-    to : (answer .verdict ≤ 5) ⊎ ((answer .verdict ≡ 7) ⊎ (answer .verdict ≡ 50)) → answer .verdict ≤ 6
-    to (inl l) = omega (arith, l)
-    to (inr (inl q)) = absurd (not-7 (answer .verdict) (λ six e. omega (arith, six, e)) (tell-numbers input answer promise) q)
+    to : (answer .verdict ≤ 5) ⊎ ((answer .verdict ≡ 7) ⊎ (answer .verdict ≡ 50)) → answer .verdict ≤ 5
+    to (inl l) = l
+    to (inr (inl q)) = absurd (told-7 (tell-numbers input answer promise))
+      where
+        told-7 : (answer .verdict ≡ 0) ⊎ FileRule (answer .verdict) → ⊥
+        told-7 (inl z) = omega (arith, z, q)
+        told-7 (inr r) = rule-not-7 (answer .verdict) r q
     to (inr (inr q)) = absurd (never-shows input answer promise .0 q)
-
-    go : (over : Bool) → ltb 65024 (length input) ≡ over → (answer .at ≡ 0) ↔ (answer .verdict ≤ 6)
-    go true e =
-        let six = tell-answers input answer promise .over (ltb-true 65024 (length input) e) in
-        (λ z. omega (arith, six .0), λ l. six .2)
-    go false e =
-        let given = judged-as (ltb-false 65024 (length input) e) in
-        let both = judge-at-zero 1 input annexII annexI [] (verdictIn answer) given in
-        (λ z. to (both .0 z), λ l. both .1 (inl (below-6 (answer .verdict) l (judge-numbers 1 input annexII annexI [] (verdictIn answer) given))))

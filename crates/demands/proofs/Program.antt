@@ -5,21 +5,24 @@ use mathlib.Core.Bool.{Bool, true, false, cond}
 use mathlib.Core.List.{List, []}
 use mathlib.Core.Logic.{_⊎_, inl, inr}
 use native.Mathlib.Omega.{arith}
-use borrow.Author.Tests.{eqb-true, eqb-false, ltb-true, ltb-false}
-use lib.Dec.{eqb, ltb}
+use borrow.Author.Tests.{eqb-true, eqb-false}
+use lib.Dec.{eqb}
 use lib.ListN.{length}
 use Rattle.fields.specs.Lists.{isTaken}
 use Rattle.judge.specs.Small.{judge-small}
-use Rattle.judge.specs.Verdict.{refused, verdictOf, judgeOf}
+use Rattle.judge.specs.Verdict.{verdictOf, judgeOf}
 use Rattle.judge.specs.declared.Verdict.{Verdict}
 use Rattle.forwarding.specs.Forwarded.{notesOf}
 use Rattle.report.specs.Annexes.{annexI, annexII}
-use Rattle.report.specs.Report.{lines, reportOf}
+use Rattle.reader.specs.State.{answered, endOf}
+use Rattle.report.specs.Report.{lines, reportOf, saidOf}
 use Rattle.host.specs.Answers.{answerOf}
 use Rattle.demands.specs.Demand1.{FileRule, TellNumbers}
 use Rattle.demands.specs.Demand2.{Zeros}
-use Rattle.demands.specs.Program.{Tells, TellAnswers, NeverShows, DeskJudgeTells}
+use Rattle.demands.specs.Reading.{Reading}
+use Rattle.demands.specs.Program.{Tells, SaysOfInput, TellAnswers, NeverShows, DeskJudgeTells}
 use Rattle.demands.proofs.Demand1.{told}
+use Rattle.demands.proofs.Reading.{read-is}
 use Rattle.demands.proofs.Prepare.{rule-below}
 use Rattle.demands.proofs.Judge.{refused-zeros}
 use Rattle.demands.proofs.Forwarding.{listed, listed-one}
@@ -34,60 +37,34 @@ module _ (input : List ℕ) where
       go true = refl
       go false = refl
 
-  abbrev ToldNumber : ℕ → Type 0
-  ToldNumber n = (n ≡ 0) ⊎ (FileRule n ⊎ (n ≡ 6))
-
-  numbers : ToldNumber (reportOf input .verdict)
-  unfolding reportOf
-  numbers = go (ltb 65024 (length input))
-    where
-      rule : (n : ℕ) → (n ≡ 0) ⊎ FileRule n → ToldNumber n
-      rule n (inl z) = inl z
-      rule n (inr r) = inr (inl r)
-
-      go : (over : Bool)
-          → ToldNumber
-          (cond over (lines (refused 6 0 0) 0)
-          (lines (judgeOf 1 input annexII annexI []) (cond (eqb (judgeOf 1 input annexII annexI [] .number) 0) (length (notesOf 1 input)) 0)) .verdict)
-      go true = inr (inr refl)
-      go false = rw verdict-is (rule _ (told 1 input annexII annexI))
-
   tells : Tells input (reportOf input)
   unfolding reportOf
-  tells = go (ltb 65024 (length input)) (eqb (judgeOf 1 input annexII annexI [] .number) 0) refl refl
+  tells = go (eqb (judgeOf 1 input annexII annexI [] .number) 0) refl
     where
       zeros : (judgeOf 1 input annexII annexI [] .number ≡ 0 → ⊥) → Zeros (judgeOf 1 input annexII annexI [])
       zeros n = subst Zeros (sym verdict-is) (refused-zeros 1 input annexII annexI (λ z. n (ap (λ (w : Verdict). w .number) verdict-is ∙ z)))
 
-      go : (over zero : Bool) → ltb 65024 (length input) ≡ over → eqb (judgeOf 1 input annexII annexI [] .number) 0 ≡ zero
-          → Tells input (cond over (lines (refused 6 0 0) 0) (lines (judgeOf 1 input annexII annexI []) (cond zero (length (notesOf 1 input)) 0)))
-      go true zero p q =
-          record {
-            over = λ l. (refl, refl, refl);
-            judged = λ s. absurd (omega (arith, ltb-true 65024 (length input) p));
-            counted = λ b changes list z. absurd (omega (arith, z));
-            refused = λ n. (refl, refl, refl, refl);
-          }
-      go false true p q =
+      go : (zero : Bool) → eqb (judgeOf 1 input annexII annexI [] .number) 0 ≡ zero
+          → Tells input (lines (answered (judgeOf 1 input annexII annexI []) (cond zero (length (notesOf 1 input)) 0)))
+      go true q =
           let z = eqb-true (judgeOf 1 input annexII annexI [] .number) 0 q in
           record {
-            over = λ l. absurd (omega (arith, ltb-false 65024 (length input) p));
-            judged = λ s. refl;
+            judged = refl;
             counted = λ b changes list e. ap length (listed-one 1 input (notesOf 1 input) changes (listed 1 input b) list);
             refused = λ n. absurd (n z);
           }
-      go false false p q =
+      go false q =
           let n = eqb-false (judgeOf 1 input annexII annexI [] .number) 0 q in
           let w = zeros n in
           record {
-            over = λ l. absurd (omega (arith, ltb-false 65024 (length input) p));
-            judged = λ s. refl;
+            judged = refl;
             counted = λ b changes list z. absurd (n z);
             refused = λ m. (w .0, w .1, w .2, refl);
           }
 
 pub tell-numbers : TellNumbers
-tell-numbers input answer promise = rw promise (numbers input)
+unfolding reportOf
+tell-numbers input answer promise = rw (promise, verdict-is input) (told 1 input annexII annexI)
 
 pub tell-answers : TellAnswers
 tell-answers input answer promise = rw promise (tells input)
@@ -98,10 +75,16 @@ never-shows input answer promise = (no 50 (omega arith), no 60 (omega arith), no
     no : (m : ℕ) → 50 ≤ m → answer .verdict ≡ m → ⊥
     no m l e = go (tell-numbers input answer promise)
       where
-        go : (answer .verdict ≡ 0) ⊎ (FileRule (answer .verdict) ⊎ (answer .verdict ≡ 6)) → ⊥
+        go : (answer .verdict ≡ 0) ⊎ FileRule (answer .verdict) → ⊥
         go (inl z) = omega (arith, z, e, l)
-        go (inr (inl r)) = omega (arith, rule-below (answer .verdict) r, e, l)
-        go (inr (inr s)) = omega (arith, s, e, l)
+        go (inr r) = omega (arith, rule-below (answer .verdict) r, e, l)
+
+-- the answer after all pieces, by the judge's over the whole input
+pub says-of-input : SaysOfInput
+unfolding saidOf reportOf
+says-of-input pieces r answer read said =
+    let reading : Reading 1 pieces [] (endOf r []) = record { first = read .first; last = r; new = read .started; fed = read .read; ended = refl } in
+    said ∙ ap lines (read-is 1 pieces annexII annexI [] (endOf r []) (read .lists) reading)
 
 pub desk-judge-tells : DeskJudgeTells
 desk-judge-tells file transfer cheque answer verdict coded given =

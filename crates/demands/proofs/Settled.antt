@@ -8,7 +8,7 @@ use Rattle.prepare.specs.declared.Prepared.{Prepared}
 use Rattle.restore.specs.Restored.{restoreOf, restoredInto}
 use Rattle.restore.specs.declared.Restored.{Restored}
 use Rattle.show.specs.Shown.{shownAt}
-use Rattle.demands.specs.Settled.{Settled, JudgeSettled, PrepareSettled, RestoreSettled, ShowSettled, TellSettled, DeskJudgeSettled, DeskShowSettled}
+use Rattle.demands.specs.Settled.{Settled, JudgeSettled, PrepareSettled, RestoreSettled, ShowSettled, TellSettled, DeskJudgeSettled, DeskShowSettled, NewSettled, FeedSettled, EndSettled, SaySettled}
 
 -- a promise that says what the answer equals
 equal : {A : Type 0} (b : A) → Settled (λ (a : A). a ≡ b)
@@ -61,3 +61,15 @@ desk-judge-settled file transfer cheque = equal _
 
 pub desk-show-settled : DeskShowSettled
 desk-show-settled file k f = equal _
+
+pub new-settled : NewSettled
+new-settled page = equal _
+
+pub feed-settled : FeedSettled
+feed-settled r cut transfer cheque = equal _
+
+pub end-settled : EndSettled
+end-settled r taken = equal _
+
+pub say-settled : SaySettled
+say-settled r = equal _

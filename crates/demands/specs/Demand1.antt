@@ -1,7 +1,8 @@
 -- Demand 1: "Any bytes, any country lists, any room may be handed in. Every call ends with an answer or a numbered refusal, and
 -- a refused call changes no byte that it was lent." (RULES 9.1) Which numbers a call can answer, by document 01's table
--- (RULES 4, 6, 8) and document 02, A2: 7; show answers a part. Any page number may be handed in too. And what is left of lent
--- memory: judge, show and the program are lent nothing for writing; prepare is lent output and note places, restore an output.
+-- (RULES 4, 6, 8) and document 02, A2: 7, A3: "6 is withdrawn"; show answers a part. Any page number may be handed in too, and
+-- any reader. And what is left of lent memory: judge, reader, show and the program are lent nothing for writing; prepare is
+-- lent output and note places, restore an output.
 use Prim.Native.Nat.{ℕ, _≤_}
 use mathlib.Core.Path.{_≡_}
 use mathlib.Core.List.{List}
@@ -12,8 +13,11 @@ use Rattle.prepare.specs.Prepared.{PreparedAs}
 use Rattle.prepare.specs.declared.Prepared.{Prepared}
 use Rattle.restore.specs.Restored.{RestoredAs}
 use Rattle.restore.specs.declared.Restored.{Restored}
+use Rattle.reader.specs.Cuts.{Cut}
+use Rattle.reader.specs.declared.Read.{Read}
 use Rattle.report.specs.Report.{ToldAs}
 use Rattle.report.specs.declared.Report.{Report}
+use Rattle.demands.specs.Reading.{Reading}
 
 -- rules 10 to 42, and all rules of a file
 abbrev pub ContentRule : ℕ → Type 0
@@ -42,7 +46,13 @@ RestoreNumbers =
 abbrev pub TellNumbers : Type 0
 TellNumbers =
     (input : List ℕ) (answer : Report) → ToldAs input answer
-    → (answer .verdict ≡ 0) ⊎ (FileRule (answer .verdict) ⊎ (answer .verdict ≡ 6))
+    → (answer .verdict ≡ 0) ⊎ FileRule (answer .verdict)
+
+abbrev pub ReadNumbers : Type 0
+ReadNumbers =
+    (page : ℕ) (cuts : List Cut) (taken : List ℕ) (read : Read) → Reading page cuts taken read
+    → (read .answer .verdict .number ≡ 0)
+    ⊎ (FileRule (read .answer .verdict .number) ⊎ ((read .answer .verdict .number ≡ 7) ⊎ (read .answer .verdict .number ≡ 50)))
 
 abbrev pub PrepareKeeps : Type 0
 PrepareKeeps =

@@ -3,9 +3,10 @@ pub mod Sample
 pub mod Cases
 pub mod Broken
 pub mod Where
-pub mod Demand1
 pub mod Demand2
 pub mod Forwarding
+pub mod Reading
+pub mod Demand1
 pub mod Demand3
 pub mod Show
 pub mod Program

@@ -1,7 +1,7 @@
 -- Document 01, "What every promise settles" (RULES 14): "For each input, refused ones too, a public call's promise
 -- leaves one possible answer and one possible content of all memory it was lent. That any two permitted outcomes
 -- coincide is proved". Over the predicates that the calls' `ensures` state, and on any page, also one that does not exist.
--- `desk_judge_full`, `desk_prepare` and `desk_restore` promise `JudgedAs`, `PreparedAs` and `RestoredAs` too.
+-- `desk_judge_full`, `desk_prepare`, `desk_restore` and the three calls of a reader promise the same as the calls below them.
 use Prim.Native.Nat.{ℕ}
 use mathlib.Core.Path.{_≡_}
 use mathlib.Core.List.{List}
@@ -12,7 +12,10 @@ use Rattle.prepare.specs.declared.Prepared.{Prepared}
 use Rattle.restore.specs.Restored.{RestoredAs}
 use Rattle.restore.specs.declared.Restored.{Restored}
 use Rattle.show.specs.Shown.{ShownAs}
-use Rattle.report.specs.Report.{ToldAs}
+use Rattle.reader.specs.State.{NewAs, FedAs, EndedAs}
+use Rattle.reader.specs.declared.Reader.{Reader}
+use Rattle.reader.specs.declared.Read.{Read}
+use Rattle.report.specs.Report.{ToldAs, SaidAs}
 use Rattle.report.specs.declared.Report.{Report}
 use Rattle.host.specs.Answers.{CodedAs, PlacedAs}
 use Rattle.host.specs.declared.Part.{Part}
@@ -49,3 +52,16 @@ DeskJudgeSettled = (file transfer cheque : List ℕ) → Settled (λ (o : ℕ). 
 
 abbrev pub DeskShowSettled : Type 0
 DeskShowSettled = (file : List ℕ) (k f : ℕ) → Settled (λ (o : Part). PlacedAs file k f o)
+
+-- the reader's three calls, whatever reader is handed in; and what the program says at its end
+abbrev pub NewSettled : Type 0
+NewSettled = (page : ℕ) → Settled (λ (o : Reader). NewAs page o)
+
+abbrev pub FeedSettled : Type 0
+FeedSettled = (r : Reader) (cut transfer cheque : List ℕ) → Settled (λ (o : Reader). FedAs r cut transfer cheque o)
+
+abbrev pub EndSettled : Type 0
+EndSettled = (r : Reader) (taken : List ℕ) → Settled (λ (o : Read). EndedAs r taken o)
+
+abbrev pub SaySettled : Type 0
+SaySettled = (r : Reader) → Settled (λ (o : Report). SaidAs r o)

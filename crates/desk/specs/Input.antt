@@ -20,10 +20,12 @@ none-read r s = ([], record { first = r; started = s; lists = tt; read = refl })
 
 pub one-more : (r next : Reader) → Reads r → Fed r next → Reads next
 one-more r next (pieces, h) fed =
-    let cut : Cut = record { bytes = fed .0; transfer = annexII; cheque = annexI } in
-    (pieces ++ (cut ∷ []), record {
-      first = h .first;
-      started = h .started;
-      lists = lent-more annexII annexI pieces cut (h .lists) (refl, refl);
-      read = fed-more (h .first) pieces r cut next (h .read) (fed .1);
-    })
+    let cut : Cut = record { bytes = fed .0; transfer = annexII; cheque = annexI } in (
+      pieces ++ (cut ∷ []),
+      record {
+        first = h .first;
+        started = h .started;
+        lists = lent-more annexII annexI pieces cut (h .lists) (refl, refl);
+        read = fed-more (h .first) pieces r cut next (h .read) (fed .1);
+      },
+    )

@@ -103,9 +103,10 @@ module _ (page : ℕ) (cuts : List Cut) where
         let up : suc n ≡ n + 1 = omega arith in
         let right : 0 ≡ faultIn (s .next) (slotAt file (n + 1)) =
         sym (ap (λ (k : ℕ). faultIn k (slotAt file (n + 1))) (next-is page cuts (n + 1)) ∙ f .right) in
-        let v = by-structure (Fits n) (fit-found file n f) in
-        (sym (ends-whole page s (slotAt file (n + 1)) (min 7679745 (length file)) few (goes page cuts (n + 1)) right refl refl) ∙ at-z-is n ∙ sym v
-        , λ z. (rw up at (number-is page cuts n), rw up at (changes-are page cuts n f)))
+        let v = by-structure (Fits n) (fit-found file n f) in (
+          sym (ends-whole page s (slotAt file (n + 1)) (min 7679745 (length file)) few (goes page cuts (n + 1)) right refl refl) ∙ at-z-is n ∙ sym v,
+          λ z. (rw up at (number-is page cuts n), rw up at (changes-are page cuts n f)),
+        )
 
     on-runs : (k : ℕ) → Reached file k → recordAt k ≤ length file → length file < recordAt (k + 1)
         → Concludes (tallyAt page cuts k) (slotAt file k)

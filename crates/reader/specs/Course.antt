@@ -149,15 +149,17 @@ module _ (page : ℕ) (cuts : List Cut) where
 
       -- the byte does not fill the slot
       holds-on : (place + 1 ≡ recordAt (k + 1) → ⊥) → Course (place + 1) (mid (tallyAt k) more)
-      holds-on n =
-          (fine, inl (record {
-            k = k;
-            due = due;
-            low = omega arith;
-            high = omega arith;
-            tally = refl;
-            held = one-more k low;
-          }))
+      holds-on n = (
+        fine,
+        inl (record {
+          k = k;
+          due = due;
+          low = omega arith;
+          high = omega arith;
+          tally = refl;
+          held = one-more k low;
+        }),
+      )
 
       module _ (last : place + 1 ≡ recordAt (k + 1)) where
         wide : place + 1 - recordAt k ≡ widthAt k
@@ -291,17 +293,18 @@ module _ (page : ℕ) (cuts : List Cut) where
   -- before the first byte
   pub course-start : Course 0 (mid fresh [])
   unfolding tallyAt
-  course-start =
-      (record { few = lit≤ tt; euros-fit = lit≤ tt; cents-fit = lit≤ tt; changes-fit = lit≤ tt }
-      , inl
-      (record {
-        k = 0;
-        due = λ j h. absurd (omega arith);
-        low = lit≤ tt;
-        high = lit< tt;
-        tally = refl;
-        held = refl;
-      }))
+  course-start = (
+    record { few = lit≤ tt; euros-fit = lit≤ tt; cents-fit = lit≤ tt; changes-fit = lit≤ tt },
+    inl
+        (record {
+          k = 0;
+          due = λ j h. absurd (omega arith);
+          low = lit≤ tt;
+          high = lit< tt;
+          tally = refl;
+          held = refl;
+        }),
+  )
 
   -- the cuts from that place on, which are those of cs
   pub record From (place : ℕ) (cs : List Cut) : Type 0 where
