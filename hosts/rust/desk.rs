@@ -8,7 +8,11 @@
 //! Restore needs the page and the country lists that prepare had; with others it may refuse the pair. So store the page
 //! with the forwarded file and its notes.
 
+use std::io::{self, ErrorKind, Read};
 use std::{error, fmt, ops::Range};
+
+/// The bytes of the longest file that rule 1 lets pass: 9,999 payments.
+pub const MOST_BYTES: u64 = 7_679_744;
 
 /// The code page: at which codes the office writes the four German characters Ä, Ö, Ü and ß, which become A, O, U and S. On the one
 /// page the codes of the other become spaces.
@@ -36,9 +40,16 @@ pub struct Judgement {
     pub cents: u64,
 }
 
+/// What a reader answers of a sound file: the judge's answer, and how many characters `prepare` would change.
+#[derive(Clone, Copy, Debug, PartialEq, Eq)]
+pub struct Answer {
+    pub judgement: Judgement,
+    pub changes: u64,
+}
+
 /// The first broken rule, the record at which it is broken (Q is 0, payments count from 1, Z is last), and the offset in
-/// that record of the lowest-placed field that breaks it. Only `judge` tells this place, and only for rules 10 to 42; else
-/// `at` is 0.
+/// that record of the lowest-placed field that breaks it. Only `judge` and a `Reader` tell this place, and only for rules
+/// 10 to 42; else `at` is 0.
 #[derive(Clone, Copy, Debug, PartialEq, Eq)]
 pub struct Refusal {
     pub number: u64,
@@ -75,6 +86,13 @@ pub enum Field {
     T24,
 }
 
+/// Judges a file as it arrives, in cuts of any size, empty ones too: it keeps one unfinished record and never the file.
+/// Fed with the same lists throughout, it answers at the end as `judge` does over all the bytes.
+#[derive(Clone, Debug)]
+pub struct Reader {
+    own: c::Reader,
+}
+
 /// Judges a file on page 0 (DIN 66003) without taken numbers: record × 100 + number; 0 for a sound file. For a file in ISO
 /// 8859-1 there is `judge` with that page; here its umlauts would be read as spaces.
 pub fn judge_code(file: &[u8], lists: Lists) -> u64 {
@@ -103,8 +121,7 @@ pub fn judge(page: Page, file: &[u8], lists: Lists, taken: &[u64]) -> Result<Jud
             taken.len(),
         )
     };
-    let c::Judged { number, record, at, payments, euros, cents } = judged;
-    answer(Refusal { number, record, at }, Judgement { payments, euros, cents })
+    judgement(judged)
 }
 
 /// Prepares a file for forwarding, and answers how many notes there are. `out` then begins with the forwarded file, and
@@ -181,6 +198,57 @@ pub fn place(file: &[u8], record: u64, field: Field) -> Option<Range<usize>> {
 pub fn columns_at(kind: char, offset: u64) -> Option<Columns> {
     let mut fields = FIELDS.into_iter().filter(|row| row.field.starts_with(kind));
     fields.find(|row| offset < row.last && offset + 1 >= row.first)
+}
+
+impl Reader {
+    /// A reader that has got no byte yet; the end of it would be 2 at record 0.
+    pub fn new(page: Page) -> Reader {
+        // SAFETY: it takes a number alone.
+        Reader { own: unsafe { c::desk_reader_new(page as u32) } }
+    }
+
+    /// Takes the next cut. A payment is judged by the lists that come with its last byte. After the end no cut changes
+    /// anything.
+    pub fn feed(&mut self, cut: &[u8], lists: Lists) {
+        let Lists { transfer, cheque } = lists;
+        // SAFETY: each pointer and count is one slice's.
+        self.own = unsafe {
+            c::desk_reader_feed(
+                self.own,
+                cut.as_ptr(),
+                cut.len(),
+                transfer.as_ptr(),
+                transfer.len(),
+                cheque.as_ptr(),
+                cheque.len(),
+            )
+        };
+    }
+
+    /// Takes what a source gives, cut by cut, to its end; of a source that is longer than any file, as many bytes as show
+    /// it. Where the source fails, its error is handed on, and what came before it has been taken.
+    pub fn feed_from(&mut self, source: impl Read, lists: Lists) -> io::Result<()> {
+        const CUT: usize = 64 * 1024;
+        let mut source = source.take(MOST_BYTES + 1);
+        let mut cut = [0; CUT];
+        loop {
+            match source.read(&mut cut) {
+                Ok(0) => return Ok(()),
+                Ok(count) => self.feed(&cut[..count], lists),
+                Err(error) if error.kind() == ErrorKind::Interrupted => {}
+                Err(error) => return Err(error),
+            }
+        }
+    }
+
+    /// What all the cuts make, also by the taken file numbers. The first end decides: asked again it answers the same,
+    /// whatever numbers are lent.
+    pub fn end(&mut self, taken: &[u64]) -> Result<Answer, Refusal> {
+        // SAFETY: the pointer and the count are one slice's.
+        let c::Read { reader, judged, changes } = unsafe { c::desk_reader_end(self.own, taken.as_ptr(), taken.len()) };
+        self.own = reader;
+        judgement(judged).map(|judgement| Answer { judgement, changes })
+    }
 }
 
 /// The page of a number that comes from outside. Where there is none it is refused as the calls in C refuse it: 7, at
@@ -281,7 +349,7 @@ impl fmt::Display for Columns {
 
 impl error::Error for Refusal {}
 
-/// The refusals, in the words of README.md; 6 is the program's alone.
+/// The refusals, in the words of README.md.
 const WORDS: [(u64, &str); 36] = [
     (1, "file longer than 7,679,744 bytes (9,999 payments)"),
     (2, "file ends inside a record, or where one is due"),
@@ -372,6 +440,12 @@ const fn columns(field: &'static str, first: u64, last: u64) -> Columns {
     Columns { field, first, last }
 }
 
+/// The judge's answer: what a sound file holds, or the refusal.
+fn judgement(judged: c::Judged) -> Result<Judgement, Refusal> {
+    let c::Judged { number, record, at, payments, euros, cents } = judged;
+    answer(Refusal { number, record, at }, Judgement { payments, euros, cents })
+}
+
 /// A call's answer where its number is 0, and otherwise the refusal.
 fn answer<T>(refusal: Refusal, sound: T) -> Result<T, Refusal> {
     match refusal.number {
@@ -390,6 +464,21 @@ mod c {
         pub payments: u64,
         pub euros: u64,
         pub cents: u64,
+    }
+
+    /// A `desk_reader`. What is in it is the desk's own.
+    #[repr(C)]
+    #[derive(Clone, Copy, Debug)]
+    pub struct Reader {
+        own: [u64; 118],
+    }
+
+    /// A `desk_read`, whose answer is the judge's, and the changes behind it.
+    #[repr(C)]
+    pub struct Read {
+        pub reader: Reader,
+        pub judged: Judged,
+        pub changes: u64,
     }
 
     #[repr(C)]
@@ -433,6 +522,20 @@ mod c {
             taken: *const u64,
             taken_n: usize,
         ) -> Judged;
+
+        pub fn desk_reader_new(page: u32) -> Reader;
+
+        pub fn desk_reader_feed(
+            reader: Reader,
+            cut: *const u8,
+            n: usize,
+            transfer: *const u8,
+            nt: usize,
+            cheque: *const u8,
+            nc: usize,
+        ) -> Reader;
+
+        pub fn desk_reader_end(reader: Reader, taken: *const u64, taken_n: usize) -> Read;
 
         pub fn desk_prepare(
             page: u32,
