@@ -1,11 +1,16 @@
 /* A host: judges a file, prepares it, tells each change with its field and the characters before and after, shows that
-   restore gives the file back, and writes the forwarded file and its notes.
+   restore gives the file back, and writes the forwarded file and its notes. Or it judges a file that arrives on standard
+   input, and tells how many characters would be changed.
 
        example [--page 0|1] FILE [FORWARDED NOTES]
+       example [--page 0|1] -
 
-   The page says at which codes FILE has the four German characters: 0 is DIN 66003, 1 is ISO 8859-1. Where none is named
-   it is 1. It is told with the verdict: store it with the pair, for restore needs the page and the country lists that
+   The page says at which codes the file has the four German characters: 0 is DIN 66003, 1 is ISO 8859-1. Where none is
+   named it is 1. It is told with the verdict: store it with the pair, for restore needs the page and the country lists that
    prepare had. A word that begins with - is taken for an option; a file of such a name is ./-name.
+
+   Standard input may be of any length: it goes through a reader in cuts, and no more than one cut is held. It can be judged
+   and not prepared, for prepare takes a whole file.
 
    It writes over nothing, and nothing that fails leaves anything behind:
    1. FORWARDED and NOTES are two new files: what is there already is never replaced, FILE least of all.
@@ -23,6 +28,7 @@
 #include "words.h"
 
 #include <errno.h>
+#include <fcntl.h>
 #include <inttypes.h>
 #include <signal.h>
 #include <stdbool.h>
@@ -40,7 +46,9 @@ static const char transfer[] =
 static const char cheque[] = "ARBOBRCLCRDOSVECGTGBHNCACOMXNIPAPYPEPRUYUSVE";
 #define LISTS (const uint8_t *)transfer, sizeof transfer - 1, (const uint8_t *)cheque, sizeof cheque - 1
 
-enum { MOST = 7679744 };
+static const uint64_t none_taken[1];
+
+enum { MOST = 7679744, CUT = 64 * 1024 };
 static uint8_t file[MOST + 1], forwarded[MOST + 1], restored[MOST + 1];
 static uint32_t notes[MOST];
 
@@ -57,7 +65,7 @@ static const struct { const char *word, *name; } pages[] = {
     [DESK_ISO_8859_1] = {"1", "page 1 (ISO 8859-1)"},
 };
 
-/* What is asked for: the page, and by the other words the paths. */
+/* What is asked for: the page, and by the other words the paths, or - alone for standard input. */
 typedef struct {
     uint32_t page;
     int count;
@@ -80,23 +88,33 @@ static bool take_page(request *asked)
     return false;
 }
 
-/* Whether the words can be understood: one path or three, behind the page, if any. */
+static bool is_input(const char *word) { return strcmp(word, "-") == 0; }
+
+/* Whether each word can be what it stands for: standard input stands alone, and behind the page there is no option. */
+static bool are_in_place(const request *asked)
+{
+    int first = asked->count > 0 && is_input(asked->words[0]) ? 1 : 0;
+    if (first && asked->count > 1)
+        return wrong(asked->words[0], "standard input can only be judged; FORWARDED and NOTES need a FILE");
+    for (int i = first; i < asked->count; i++) {
+        const char *word = asked->words[i];
+        if (word[0] == '-') {
+            fprintf(stderr, "%s: no option in this place; a file of that name is ./%s\n", word, word);
+            return false;
+        }
+    }
+    return true;
+}
+
+/* Whether the words can be understood: one path or three, or - alone, behind the page, if any. */
 static bool understand(request *asked)
 {
     if (!take_page(asked))
         return false;
-    bool right = asked->count == 1 || asked->count == 3;
-    for (int i = 0; i < asked->count; i++) {
-        const char *word = asked->words[i];
-        if (word[0] == '-') {
-            fprintf(stderr, "%s: no option in this place; a file of that name is ./%s\n", word, word);
-            right = false;
-            break;
-        }
-    }
-    if (!right)
-        fprintf(stderr, "usage: example [--page 0|1] FILE [FORWARDED NOTES]\n");
-    return right;
+    if (are_in_place(asked) && (asked->count == 1 || asked->count == 3))
+        return true;
+    fprintf(stderr, "usage: example [--page 0|1] FILE [FORWARDED NOTES], or example [--page 0|1] -\n");
+    return false;
 }
 
 /* The paths: the words, and the new files that become the two targets. */
@@ -248,6 +266,12 @@ static void tell_changes(uint64_t count)
     printf("%" PRIu64 " characters changed\n", count);
 }
 
+static void tell_sound(uint32_t page, uint64_t payments, uint64_t euros, uint64_t cents)
+{
+    printf("sound on %s: %" PRIu64 " payments, %" PRIu64 " euros and %" PRIu64 " cents\n", pages[page].name, payments, euros,
+           cents);
+}
+
 static bool refused(uint32_t page, uint64_t number, uint64_t record, uint64_t at)
 {
     char line[DESK_LINE];
@@ -260,12 +284,10 @@ static bool refused(uint32_t page, uint64_t number, uint64_t record, uint64_t at
    sound file's forwarded file and so many notes, from which the very file was restored. */
 static bool examine(uint32_t page, size_t n, uint64_t *count)
 {
-    static const uint64_t none[1];
-    desk_judgement judged = desk_judge_full(page, file, n, LISTS, none, 0);
+    desk_judgement judged = desk_judge_full(page, file, n, LISTS, none_taken, 0);
     if (judged.number)
         return refused(page, judged.number, judged.record, judged.at);
-    printf("sound on %s: %" PRIu64 " payments, %" PRIu64 " euros and %" PRIu64 " cents\n", pages[page].name,
-           judged.payments, judged.euros, judged.cents);
+    tell_sound(page, judged.payments, judged.euros, judged.cents);
 
     desk_prepared prepared = desk_prepare(page, file, n, LISTS, forwarded, sizeof forwarded, notes, MOST);
     if (prepared.number)
@@ -279,31 +301,83 @@ static bool examine(uint32_t page, size_t n, uint64_t *count)
     return the_very_file;
 }
 
+/* Whether all that was told could be printed. */
+static bool is_printed(void)
+{
+    if (fflush(stdout) == 0 && !ferror(stdout))
+        return true;
+    fprintf(stderr, "standard output cannot be written\n");
+    return false;
+}
+
+/* The host's work on a file: the status to end with. */
+static int work_on_file(const request *asked)
+{
+    bool writes = asked->count == 3;
+    const char *paths[PATHS] = {asked->words[0]};
+    if (writes) {
+        paths[FORWARDED] = asked->words[1];
+        paths[NOTES] = asked->words[2];
+        paths[NEW_FORWARDED] = new_name(asked->words[1]);
+        paths[NEW_NOTES] = new_name(asked->words[2]);
+    }
+    size_t n = 0;
+    uint64_t count = 0;
+    if ((writes && !are_new(paths)) || !read_whole(paths[GIVEN], &n))
+        return 2;
+    bool restorable = examine(asked->page, n, &count);
+    if (!is_printed())
+        return 2;
+    if (!restorable)
+        return 1;
+    return !writes || write_both(paths, n, count) ? 0 : 2;
+}
+
+/* Hands standard input to the reader as it comes: to its end, or until it is longer than any sound file, for then more
+   bytes change nothing. */
+static bool feed_input(desk_reader *reader)
+{
+    static const char input[] = "standard input";
+    static uint8_t cut[CUT];
+    if (fcntl(STDIN_FILENO, F_GETFD) == -1)
+        return wrong(input, "is closed");
+    for (size_t bytes = 0; bytes <= MOST;) {
+        ssize_t n = read(STDIN_FILENO, cut, sizeof cut);
+        if (n == 0)
+            return true;
+        if (n > 0) {
+            *reader = desk_reader_feed(*reader, cut, (size_t)n, LISTS);
+            bytes += (size_t)n;
+        } else if (errno != EINTR) {
+            return wrong(input, strerror(errno));
+        }
+    }
+    return true;
+}
+
+/* The host's work on standard input: the status to end with. */
+static int judge_input(uint32_t page)
+{
+    desk_reader reader = desk_reader_new(page);
+    if (!feed_input(&reader))
+        return 2;
+    desk_answer found = desk_reader_end(reader, none_taken, 0).answer;
+    if (found.number) {
+        refused(page, found.number, found.record, found.at);
+    } else {
+        tell_sound(page, found.payments, found.euros, found.cents);
+        printf("%" PRIu64 " characters would be changed\n", found.changes);
+    }
+    if (!is_printed())
+        return 2;
+    return found.number ? 1 : 0;
+}
+
 int main(int argc, char **argv)
 {
     request asked = {DESK_ISO_8859_1, argc - 1, argv + 1};
     if (!understand(&asked))
         return 2;
     signal(SIGPIPE, SIG_IGN); /* where nobody reads on, printing fails, and is told like every other failure */
-
-    bool writes = asked.count == 3;
-    const char *paths[PATHS] = {asked.words[0]};
-    if (writes) {
-        paths[FORWARDED] = asked.words[1];
-        paths[NOTES] = asked.words[2];
-        paths[NEW_FORWARDED] = new_name(asked.words[1]);
-        paths[NEW_NOTES] = new_name(asked.words[2]);
-    }
-    size_t n = 0;
-    uint64_t count = 0;
-    if ((writes && !are_new(paths)) || !read_whole(paths[GIVEN], &n))
-        return 2;
-    bool restorable = examine(asked.page, n, &count);
-    if (fflush(stdout) != 0 || ferror(stdout)) {
-        fprintf(stderr, "standard output cannot be written\n");
-        return 2;
-    }
-    if (!restorable)
-        return 1;
-    return !writes || write_both(paths, n, count) ? 0 : 2;
+    return is_input(asked.words[0]) ? judge_input(asked.page) : work_on_file(&asked);
 }

@@ -5,7 +5,7 @@
 #include <stddef.h>
 #include <stdio.h>
 
-/* The refusals, in the words of README.md; 6 is the program's alone. */
+/* The refusals, in the words of README.md. */
 static const struct { uint64_t number; const char *words; } refusals[] = {
     {1, "file longer than 7,679,744 bytes (9,999 payments)"},
     {2, "file ends inside a record, or where one is due"},

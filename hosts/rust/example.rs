@@ -1,11 +1,16 @@
 //! A host: judges a file, prepares it, tells each change with its field and the characters before and after, shows that
-//! restore gives the file back, and writes the forwarded file and its notes.
+//! restore gives the file back, and writes the forwarded file and its notes. Or it judges a file that arrives on standard
+//! input, and tells how many characters would be changed.
 //!
 //!     example [--page 0|1] FILE [FORWARDED NOTES]
+//!     example [--page 0|1] -
 //!
-//! The page says at which codes FILE has the four German characters: 0 is DIN 66003, 1 is ISO 8859-1. Where none is named
-//! it is 1. It is told with the verdict: store it with the pair, for restore needs the page and the country lists that
+//! The page says at which codes the file has the four German characters: 0 is DIN 66003, 1 is ISO 8859-1. Where none is
+//! named it is 1. It is told with the verdict: store it with the pair, for restore needs the page and the country lists that
 //! prepare had. A word that begins with - is taken for an option; a file of such a name is ./-name.
+//!
+//! Standard input may be of any length: it goes through a reader in cuts, and no more than one cut is held. It can be judged
+//! and not prepared, for prepare takes a whole file.
 //!
 //! It writes over nothing, and nothing that fails leaves anything behind:
 //! 1. FORWARDED and NOTES are two new files: what is there already is never replaced, FILE least of all.
@@ -23,11 +28,11 @@
 #[allow(dead_code)] // not every call is made here
 mod desk;
 
-use desk::{Judgement, Lists, Note, Page, Refusal};
+use desk::{Answer, Judgement, Lists, Note, Page, Reader, Refusal, MOST_BYTES};
 use std::ffi::{OsStr, OsString};
 use std::fs::{self, File, OpenOptions};
-use std::io::{self, BufWriter, ErrorKind, Read, Write};
-use std::os::unix::{ffi::OsStrExt, fs::MetadataExt};
+use std::io::{self, BufWriter, ErrorKind, Read, Stdout, Write};
+use std::os::unix::{ffi::OsStrExt, fs::MetadataExt, io::AsFd};
 use std::path::{Path, PathBuf};
 use std::process::ExitCode;
 
@@ -39,10 +44,10 @@ const LISTS: Lists = Lists {
     cheque: b"ARBOBRCLCRDOSVECGTGBHNCACOMXNIPAPYPEPRUYUSVE",
 };
 
-const USAGE: &str = "usage: example [--page 0|1] FILE [FORWARDED NOTES]";
+const USAGE: &str = "usage: example [--page 0|1] FILE [FORWARDED NOTES], or example [--page 0|1] -";
 
-/// The longest file that is not refused by rule 1.
-const MOST: u64 = 7_679_744;
+/// The word that stands for standard input.
+const INPUT: &str = "-";
 
 /// Something could not be done: what is said of it, in which a path keeps its very bytes.
 type Failure = OsString;
@@ -50,8 +55,9 @@ type Failure = OsString;
 fn main() -> ExitCode {
     let words: Vec<OsString> = std::env::args_os().skip(1).collect();
     let done = understand(&words).and_then(|(page, paths)| match paths {
-        [file] => run(page, Path::new(file), None),
-        [file, forwarded, notes] => run(page, Path::new(file), Some(Targets::new(forwarded, notes))),
+        [word] if word == INPUT => judge_input(page),
+        [file] => work_on_file(page, Path::new(file), None),
+        [file, forwarded, notes] => work_on_file(page, Path::new(file), Some(Targets::new(forwarded, notes))),
         _ => Err(USAGE.into()),
     });
     match done {
@@ -65,16 +71,30 @@ fn main() -> ExitCode {
     }
 }
 
-/// What is asked for: the page, and by the other words the paths.
+/// What is asked for: the page, and by the other words the paths, or - alone for standard input.
 fn understand(words: &[OsString]) -> Result<(Page, &[OsString]), Failure> {
     let (page, paths) = match words {
         [option] if option == "--page" => return Err(no_page("--page names no page".into())),
         [option, word, paths @ ..] if option == "--page" => (page_of(word)?, paths),
         paths => (Page::Iso8859_1, paths),
     };
-    match paths.iter().find(|word| word.as_bytes().starts_with(b"-")) {
-        Some(word) => Err(joined(&[word, &": no option in this place; a file of that name is ./", word, &"\n", &USAGE])),
+    match misplaced(paths) {
+        Some(line) => Err(joined(&[&line, &"\n", &USAGE])),
         None => Ok((page, paths)),
+    }
+}
+
+/// What is wrong with a word where it stands: standard input stands alone, and behind the page there is no option.
+fn misplaced(words: &[OsString]) -> Option<Failure> {
+    match words {
+        [word] if word == INPUT => None,
+        [word, ..] if word == INPUT => {
+            Some(wrong(word, "standard input can only be judged; FORWARDED and NOTES need a FILE"))
+        }
+        _ => {
+            let word = words.iter().find(|word| word.as_bytes().starts_with(b"-"))?;
+            Some(joined(&[word, &": no option in this place; a file of that name is ./", word]))
+        }
     }
 }
 
@@ -92,22 +112,51 @@ fn no_page(why: OsString) -> Failure {
     joined(&[&why, &format!(": there is {} and {}", Page::Din66003, Page::Iso8859_1)])
 }
 
-/// The host's work; false where the file is refused.
-fn run(page: Page, path: &Path, targets: Option<Targets>) -> Result<bool, Failure> {
+/// The host's work on a file; false where it is refused.
+fn work_on_file(page: Page, path: &Path, targets: Option<Targets>) -> Result<bool, Failure> {
     if let Some(targets) = &targets {
         targets.are_new()?;
     }
     let file = read(path)?;
-    let mut out = BufWriter::new(io::stdout());
-    let examined = examine(page, &file, &mut out).and_then(|outgoing| out.flush().map(|()| outgoing));
-    let outgoing = match examined {
-        Ok(outgoing) if !at_start::output_was_closed() => outgoing,
-        _ => return Err("standard output cannot be written".into()),
-    };
+    let outgoing = told(|out| examine(page, &file, out))?;
     if let (Some(outgoing), Some(targets)) = (&outgoing, &targets) {
         targets.write(outgoing)?;
     }
     Ok(outgoing.is_some())
+}
+
+/// The host's work on standard input; false where what arrives is refused.
+fn judge_input(page: Page) -> Result<bool, Failure> {
+    let mut reader = Reader::new(page);
+    feed_input(&mut reader)?;
+    told(|out| match reader.end(&[]) {
+        Ok(Answer { judgement, changes }) => {
+            tell_sound(page, judgement, out)?;
+            writeln!(out, "{changes} characters would be changed")?;
+            Ok(true)
+        }
+        Err(refusal) => refused(page, refusal, out).map(|()| false),
+    })
+}
+
+/// Hands standard input to the reader as it comes. It is read as a file: Rust's own standard input takes one that is not
+/// open for reading for one that is empty.
+fn feed_input(reader: &mut Reader) -> Result<(), Failure> {
+    let name = "standard input";
+    if at_start::input_was_closed() {
+        return Err(wrong(name, "is closed"));
+    }
+    let input = io::stdin().as_fd().try_clone_to_owned().map(File::from);
+    input.and_then(|input| reader.feed_from(input, LISTS)).map_err(|error| failed(name, &error))
+}
+
+/// What was told on standard output, where all of it could be printed.
+fn told<T>(tell: impl FnOnce(&mut BufWriter<Stdout>) -> io::Result<T>) -> Result<T, Failure> {
+    let mut out = BufWriter::new(io::stdout());
+    match tell(&mut out).and_then(|told| out.flush().map(|()| told)) {
+        Ok(told) if !at_start::output_was_closed() => Ok(told),
+        _ => Err("standard output cannot be written".into()),
+    }
 }
 
 /// What goes on: the forwarded file, and its notes.
@@ -120,17 +169,15 @@ struct Outgoing {
 /// sound and the very file was restored.
 fn examine(page: Page, file: &[u8], out: &mut impl Write) -> io::Result<Option<Outgoing>> {
     match desk::judge(page, file, LISTS, &[]) {
-        Ok(Judgement { payments, euros, cents }) => {
-            writeln!(out, "sound on {page}: {payments} payments, {euros} euros and {cents} cents")?;
-        }
-        Err(refusal) => return refused(page, refusal, out),
+        Ok(judgement) => tell_sound(page, judgement, out)?,
+        Err(refusal) => return refused(page, refusal, out).map(|()| None),
     }
 
     let mut forwarded = vec![0; file.len()];
     let mut notes = vec![0; file.len()];
     match desk::prepare(page, file, LISTS, &mut forwarded, &mut notes) {
         Ok(count) => notes.truncate(count),
-        Err(refusal) => return refused(page, refusal, out),
+        Err(refusal) => return refused(page, refusal, out).map(|()| None),
     }
     tell_changes(&forwarded, &notes, out)?;
 
@@ -141,9 +188,13 @@ fn examine(page: Page, file: &[u8], out: &mut impl Write) -> io::Result<Option<O
     Ok(the_very_file.then_some(Outgoing { forwarded, notes }))
 }
 
-fn refused(page: Page, refusal: Refusal, out: &mut impl Write) -> io::Result<Option<Outgoing>> {
-    writeln!(out, "refused on {page}: {refusal}")?;
-    Ok(None)
+fn tell_sound(page: Page, judgement: Judgement, out: &mut impl Write) -> io::Result<()> {
+    let Judgement { payments, euros, cents } = judgement;
+    writeln!(out, "sound on {page}: {payments} payments, {euros} euros and {cents} cents")
+}
+
+fn refused(page: Page, refusal: Refusal, out: &mut impl Write) -> io::Result<()> {
+    writeln!(out, "refused on {page}: {refusal}")
 }
 
 /// Tells each change. They are in Q and in T records alone.
@@ -163,7 +214,7 @@ fn tell_changes(forwarded: &[u8], notes: &[u32], out: &mut impl Write) -> io::Re
 /// The file's bytes; of one that is too long, as many as show it.
 fn read(path: &Path) -> Result<Vec<u8>, Failure> {
     let mut bytes = Vec::new();
-    let read = File::open(path).and_then(|file| file.take(MOST + 1).read_to_end(&mut bytes));
+    let read = File::open(path).and_then(|file| file.take(MOST_BYTES + 1).read_to_end(&mut bytes));
     read.map_err(|error| failed(path, &error))?;
     Ok(bytes)
 }
@@ -264,8 +315,8 @@ fn removed(path: &Path, failure: Failure) -> Failure {
     failure
 }
 
-/// What is wrong with a path.
-fn wrong(path: &Path, why: &str) -> Failure {
+/// What is wrong with a path, or with standard input.
+fn wrong(path: impl AsRef<OsStr>, why: &str) -> Failure {
     joined(&[&path, &": ", &why])
 }
 
@@ -274,17 +325,23 @@ fn joined(parts: &[&dyn AsRef<OsStr>]) -> OsString {
 }
 
 /// The system's words for what is wrong with a path, without the number that Rust puts behind them.
-fn failed(path: &Path, error: &io::Error) -> Failure {
+fn failed(path: impl AsRef<OsStr>, error: &io::Error) -> Failure {
     let words = error.to_string();
     wrong(path, words.split(" (os error ").next().unwrap_or(&words))
 }
 
-/// Before main begins, Rust's library opens /dev/null in place of a closed standard output, and all that is told would
-/// be lost without a failure. So whether it is open is asked earlier, while the program is loaded.
+/// Before main begins, Rust's library opens /dev/null in place of a closed standard input or output: the one would be
+/// empty, and what is told on the other be lost, without a failure. So whether they are open is asked earlier, while the
+/// program is loaded.
 mod at_start {
     use std::sync::atomic::{AtomicBool, Ordering::Relaxed};
 
+    static INPUT_WAS_CLOSED: AtomicBool = AtomicBool::new(false);
     static OUTPUT_WAS_CLOSED: AtomicBool = AtomicBool::new(false);
+
+    pub fn input_was_closed() -> bool {
+        INPUT_WAS_CLOSED.load(Relaxed)
+    }
 
     pub fn output_was_closed() -> bool {
         OUTPUT_WAS_CLOSED.load(Relaxed)
@@ -295,11 +352,14 @@ mod at_start {
     static LOOK: extern "C" fn() = look;
 
     extern "C" fn look() {
-        const STANDARD_OUTPUT: i32 = 1;
+        INPUT_WAS_CLOSED.store(is_closed(0), Relaxed);
+        OUTPUT_WAS_CLOSED.store(is_closed(1), Relaxed);
+    }
+
+    fn is_closed(descriptor: i32) -> bool {
         const F_GETFD: i32 = 1;
         // SAFETY: it reads the flags of a descriptor, and answers -1 where that is closed.
-        let flags = unsafe { fcntl(STANDARD_OUTPUT, F_GETFD) };
-        OUTPUT_WAS_CLOSED.store(flags == -1, Relaxed);
+        unsafe { fcntl(descriptor, F_GETFD) == -1 }
     }
 
     extern "C" {
