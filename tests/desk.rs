@@ -4,7 +4,8 @@
 mod desk;
 
 use desk::Page::{Din66003, Iso8859_1};
-use desk::{Field, Judgement, Lists, Note, Page, Refusal};
+use desk::{Answer, Field, Judgement, Lists, Note, Page, Reader, Refusal};
+use std::io::{self, ErrorKind, Read};
 
 const SOUND: &[u8] = include_bytes!("../samples/sound.dtazv");
 const DIN: &[u8] = include_bytes!("../samples/din-66003.dtazv");
@@ -33,6 +34,62 @@ fn prepared(page: Page, file: &[u8]) -> (Vec<u8>, Vec<u32>) {
     let count = desk::prepare(page, file, LISTS, &mut out, &mut notes).unwrap();
     notes.truncate(count);
     (out, notes)
+}
+
+/// A sound file, the sample's first payment so many times: 120 euros and 50 cents each.
+fn payments(count: usize) -> Vec<u8> {
+    let z = format!("0256Z{:015}{:015}{:221}", 120 * count, count, "");
+    [&SOUND[..256], &SOUND[256..1024].repeat(count), z.as_bytes()].concat()
+}
+
+/// What a reader has to answer: as the judge of the whole file, and of a sound one how many changes prepare notes.
+fn whole(page: Page, file: &[u8]) -> Result<Answer, Refusal> {
+    let judgement = desk::judge(page, file, LISTS, &[])?;
+    Ok(Answer { judgement, changes: prepared(page, file).1.len() as u64 })
+}
+
+/// A reader that was fed with these cuts, each with its lists.
+fn fed<'a>(page: Page, cuts: impl IntoIterator<Item = (&'a [u8], Lists<'a>)>) -> Reader {
+    let mut reader = Reader::new(page);
+    for (cut, lists) in cuts {
+        reader.feed(cut, lists);
+    }
+    reader
+}
+
+/// What a reader answers of a file in cuts of so many bytes.
+fn in_cuts(page: Page, file: &[u8], bytes: usize) -> Result<Answer, Refusal> {
+    fed(page, file.chunks(bytes).map(|cut| (cut, LISTS))).end(&[])
+}
+
+/// A source that gives one byte a read, each only after an interruption. Where its bytes end it fails, if it is to.
+struct Halting<'a> {
+    bytes: &'a [u8],
+    was_interrupted: bool,
+    failure: Option<ErrorKind>,
+}
+
+impl<'a> Halting<'a> {
+    fn new(bytes: &'a [u8], failure: Option<ErrorKind>) -> Halting<'a> {
+        Halting { bytes, was_interrupted: false, failure }
+    }
+}
+
+impl Read for Halting<'_> {
+    fn read(&mut self, room: &mut [u8]) -> io::Result<usize> {
+        self.was_interrupted = !self.was_interrupted;
+        if self.was_interrupted {
+            return Err(ErrorKind::Interrupted.into());
+        }
+        match (self.bytes.split_first(), self.failure) {
+            (Some((first, rest)), _) => {
+                (room[0], self.bytes) = (*first, rest);
+                Ok(1)
+            }
+            (None, Some(failure)) => Err(failure.into()),
+            (None, None) => Ok(0),
+        }
+    }
 }
 
 #[test]
@@ -90,6 +147,104 @@ fn page_numbers_and_names() {
     }
     assert_eq!(Din66003.to_string(), "page 0 (DIN 66003)");
     assert_eq!(Iso8859_1.to_string(), "page 1 (ISO 8859-1)");
+}
+
+#[test]
+fn reads_any_cuts_as_the_judge_does() {
+    let with_a_byte = [SOUND, b"0"].concat();
+    let (iso, din) = (named(b"\xC4"), named(b"\x5B"));
+    let files = [SOUND, DIN, REFUSED, CHEQUES, &SOUND[..1000], &SOUND[1..], &with_a_byte, &iso, &din, &[]];
+    for (page, file) in PAGES.into_iter().flat_map(|(page, _)| files.map(|file| (page, file))) {
+        let due = whole(page, file);
+        for bytes in [1, 2, 5, 100, 255, 256, 257, 767, 768, 769, 1024, 4096] {
+            assert_eq!(in_cuts(page, file, bytes), due, "{page}, cuts of {bytes}");
+        }
+        for at in 0..=file.len() {
+            let (head, tail) = file.split_at(at);
+            let mut reader = fed(page, [(head, LISTS), (&[], LISTS), (tail, LISTS)]);
+            assert_eq!(reader.end(&[]), due, "{page}, cut at {at}");
+        }
+    }
+    assert_eq!(Reader::new(Iso8859_1).end(&[]), refused(2, 0, 0));
+    let sound = Judgement { payments: 3, euros: 1199, cents: 125 };
+    assert_eq!(in_cuts(Iso8859_1, SOUND, 100), Ok(Answer { judgement: sound, changes: 3 }));
+}
+
+/// Its one change is in Q: the sample's first payment has none.
+#[test]
+fn reads_the_longest_file() {
+    let mut file = payments(9999);
+    let judgement = Judgement { payments: 9999, euros: 9999 * 120, cents: 9999 * 50 };
+    let due = Ok(Answer { judgement, changes: 1 });
+    for bytes in [100, 4096, 65_536, file.len()] {
+        assert_eq!(in_cuts(Iso8859_1, &file, bytes), due, "cuts of {bytes}");
+    }
+    assert_eq!(whole(Iso8859_1, &file), due);
+    file.push(b'0');
+    for bytes in [100, file.len() - 1, file.len()] {
+        assert_eq!(in_cuts(Iso8859_1, &file, bytes), refused(1, 0, 0), "cuts of {bytes}");
+    }
+}
+
+#[test]
+fn reads_from_a_source() {
+    let read = |source: &mut dyn Read| {
+        let mut reader = Reader::new(Iso8859_1);
+        reader.feed_from(source, LISTS).unwrap();
+        reader.end(&[])
+    };
+    for file in [SOUND, REFUSED, &SOUND[..1000], &[]] {
+        assert_eq!(read(&mut Halting::new(file, None)), whole(Iso8859_1, file));
+        assert_eq!(read(&mut &*file), whole(Iso8859_1, file));
+    }
+    let longest = payments(9999);
+    assert_eq!(read(&mut &*longest), whole(Iso8859_1, &longest));
+    assert_eq!(read(&mut longest.chain(&b"0"[..])), refused(1, 0, 0));
+    assert_eq!(read(&mut io::repeat(b'0')), refused(1, 0, 0));
+}
+
+/// What came before the failure is taken: the rest can follow.
+#[test]
+fn hands_on_the_failure_of_a_source() {
+    let (head, tail) = SOUND.split_at(1000);
+    let mut reader = Reader::new(Iso8859_1);
+    let failed = reader.feed_from(Halting::new(head, Some(ErrorKind::ConnectionReset)), LISTS);
+    assert_eq!(failed.unwrap_err().kind(), ErrorKind::ConnectionReset);
+    assert_eq!(reader.clone().end(&[]), refused(2, 1, 0));
+    reader.feed_from(tail, LISTS).unwrap();
+    assert_eq!(reader.end(&[]), whole(Iso8859_1, SOUND));
+}
+
+#[test]
+fn the_first_end_decides() {
+    let taken = [7, 1226111601];
+    for (first, due) in [(&[][..], whole(Iso8859_1, SOUND)), (&taken, refused(50, 0, 0))] {
+        let mut reader = fed(Iso8859_1, [(SOUND, LISTS)]);
+        assert_eq!(reader.end(first), due);
+        assert_eq!(reader.end(&taken), due);
+        reader.feed(SOUND, LISTS);
+        reader.feed_from(SOUND, SWAPPED).unwrap();
+        assert_eq!(reader.end(&[]), due);
+    }
+}
+
+/// The sample's payments end at 1024, 1792 and 2560. None of their countries is in the other list: it is T10a that tells it
+/// of the first, which has a BIC, and already T9a of the others.
+#[test]
+fn a_payment_is_judged_by_the_lists_of_its_last_byte() {
+    let sound = whole(Iso8859_1, SOUND);
+    for at in 0..=SOUND.len() {
+        let (head, tail) = SOUND.split_at(at);
+        let due = match at {
+            0..=1023 => refused(28, 1, 207),
+            1024..=1791 => refused(26, 2, 64),
+            1792..=2559 => refused(26, 3, 64),
+            _ => sound,
+        };
+        assert_eq!(fed(Iso8859_1, [(head, LISTS), (tail, SWAPPED)]).end(&[]), due, "{at}");
+        let due = if at < 1024 { sound } else { refused(28, 1, 207) };
+        assert_eq!(fed(Iso8859_1, [(head, SWAPPED), (&[], SWAPPED), (tail, LISTS)]).end(&[]), due, "{at}");
+    }
 }
 
 /// The characters at 40 and 2003 are an Ü and an Ö on the one page, and become spaces on the other.
