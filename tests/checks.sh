@@ -94,8 +94,8 @@ peak() {
     wait $reader
 }
 
-# holds_no_file NAME COMMAND..: 9,999 payments on its standard input, which are 7,500 kB, take no more of the command's memory
-# than 200, which are more than a pipe holds. Some pages more or less are chance.
+# holds_no_file NAME COMMAND..: 9,999 payments on its standard input, which are 7,500 kB, take no more of the command's
+# memory than 200, which are more than a pipe holds. Some pages more or less are chance.
 holds_no_file() {
     local few many wrong=
     payments 200 >target/tests/few

@@ -74,7 +74,7 @@ typedef struct { uint64_t number, record, notes; } desk_prepared;
 typedef struct { uint64_t number, record; } desk_restored;
 typedef struct { uint64_t start, length; } desk_part;
 
-/* A reader is a value, which may be copied and stored. What is in it is the desk's own. */
+/* A reader is a value, which may be copied and kept. What is in it is the desk's own, and a newer desk may have another. */
 typedef struct { uint64_t own[118]; } desk_reader;
 typedef struct { desk_reader reader; desk_answer answer; } desk_read;
 
@@ -93,16 +93,20 @@ desk_judgement desk_judge_full(uint32_t page, const uint8_t *file, size_t n,
                                const uint8_t *transfer, size_t nt, const uint8_t *cheque, size_t nc,
                                const uint64_t *taken, size_t taken_n);
 
-/* Judges a file as it arrives, in cuts of any size, empty ones too: a new reader, each cut in turn, and then the end. The
-   reader is handed in, and comes back changed.
-       desk_reader r = desk_reader_new(DESK_ISO_8859_1);
-       while (there is a cut) r = desk_reader_feed(r, cut, n, transfer, nt, cheque, nc);
-       desk_answer answer = desk_reader_end(r, taken, taken_n).answer;
+/* Judges a file as it arrives, in cuts of any size, empty ones too. Nobody has to hold the file: the reader keeps one
+   unfinished record. It takes a new reader, each cut in turn, and then the end:
+       desk_reader reader = desk_reader_new(DESK_ISO_8859_1);
+       while ((n = fread(cut, 1, sizeof cut, input)) > 0)
+           reader = desk_reader_feed(reader, cut, n, transfer, nt, cheque, nc);
+       desk_answer answer = desk_reader_end(reader, taken, taken_n).answer;
+   A call changes no reader in place: it gives back the changed one, with which the host goes on.
    The page is named at the start, the country lists are lent with each cut, and the taken numbers at the end. A payment is
    judged by the lists of the cut that holds its last byte. Where all cuts came with the same lists, the answer is that of
-   desk_judge_full over all bytes; changes is how many characters prepare would change, and 0 where the file is refused.
-   No cut at all: 2 at record 0. The first end decides: asked again, the reader that it gave back answers the same, whatever
-   numbers are lent, and cuts that are handed to it change nothing. A reader that no call gave back is 2 at record 0, or 7. */
+   desk_judge_full over all the bytes; changes is how many characters desk_prepare would change, and 0 where the file is
+   refused. So without a byte it is 2 at record 0. Before the end there is no answer, for a later byte may change it.
+   The first end decides. The reader that it gave back answers the same when it is asked again, whatever numbers are lent,
+   and cuts that are handed to it change nothing. A reader that comes from no call, as one of zeros or of chance bytes, does
+   no harm, but its answer says nothing of any file. */
 desk_reader desk_reader_new(uint32_t page);
 desk_reader desk_reader_feed(desk_reader reader, const uint8_t *cut, size_t n,
                              const uint8_t *transfer, size_t nt, const uint8_t *cheque, size_t nc);
