@@ -1,4 +1,5 @@
-/* Times the desk's judge, prepare and restore beside an independent implementation, in one run.
+/* Times the desk's judge, prepare and restore beside an independent implementation, and its reader beside its own calls over
+   the whole file, in one run.
 
    The environment variable DESK_EMULATED names the processor under an emulator. Each figure is the best of many timing
    loops; no figure fails anything. */
@@ -15,7 +16,8 @@
 #include "sample.h"
 
 enum { DESK, PLAIN, SIDES };
-enum { JUDGE, PREPARE, RESTORE, CALLS, SHOW = CALLS };
+enum { IN_CUTS = DESK, WHOLE = PLAIN };                     /* the sides of READ, both the desk's */
+enum { JUDGE, PREPARE, RESTORE, CALLS, SHOW = CALLS, READ };
 static const char *const call_name[CALLS] = {"judge", "prepare", "restore"};
 
 static const size_t sizes[] = {1, 84, 6000, 9999};
@@ -24,12 +26,27 @@ static const double loop_seconds = 0.004;
 
 static uint8_t file[MOST_FILE], forwarded[MOST_FILE], out[MOST_FILE];
 static uint32_t notes[MOST_NOTES], notes_out[MOST_NOTES];
-static size_t n, notes_n;
+static size_t n, notes_n, cut_bytes;
 static const uint64_t no_taken[1];
 static volatile uint64_t sink;
 
 enum { PAGE = 0 };                                          /* DIN 66003, as in all figures so far */
 #define LISTS (const uint8_t *)annex_ii, ANNEX_II_BYTES, (const uint8_t *)annex_i, ANNEX_I_BYTES
+
+/* The number of changes that the reader tells, fed in cuts; 0 where it refuses the file. */
+static uint64_t read_in_cuts(void)
+{
+    desk_reader reader = desk_reader_new(PAGE);
+    for (size_t at = 0; at < n; at += cut_bytes)
+        reader = desk_reader_feed(reader, file + at, n - at < cut_bytes ? n - at : cut_bytes, LISTS);
+    return desk_reader_end(reader, no_taken, 0).answer.changes;
+}
+
+/* The same work over the whole file: without a note place, prepare judges and counts the changes, and is refused. */
+static uint64_t judge_and_count(void)
+{
+    return desk_prepare(PAGE, file, n, LISTS, out, n, notes_out, 0).number;
+}
 
 static uint64_t call_once(int call, int side)
 {
@@ -43,6 +60,8 @@ static uint64_t call_once(int call, int side)
     case RESTORE:
         return side == DESK ? desk_restore(PAGE, forwarded, n, notes, notes_n, LISTS, out, n).number
                             : plain_restore(PAGE, forwarded, n, notes, notes_n, LISTS, out, n).number;
+    case READ:
+        return side == IN_CUTS ? read_in_cuts() : judge_and_count();
     default:                                                /* the walk over the structure, and no rule */
         return side == DESK ? desk_show(file, n, 1, 2).start : plain_show(file, n, 1, 2).start;
     }
@@ -177,6 +196,27 @@ static void print_parts(void)
     }
 }
 
+/* What it costs that a file arrives in cuts: 9,999 payments, beside the judge and the count over the whole file. */
+static void print_reader(void)
+{
+    static const size_t cuts[] = {65536, 4096, 100};
+    printf("\nthe reader, 9,999 payments in cuts; ratio is reader / judge and count of the whole file\n");
+    make_file(MOST_PAYMENTS);
+    for (size_t i = 0; i < sizeof cuts / sizeof cuts[0]; i++) {
+        double best[SIDES];
+        cut_bytes = cuts[i];
+        if (read_in_cuts() != notes_n || judge_and_count() != DESK_NOTE_ROOM) {
+            fprintf(stderr, "the reader or prepare answers otherwise than is due\n");
+            exit(2);
+        }
+        measure(READ, best);
+        printf("cuts of %6zu bytes%16s", cut_bytes, "");
+        print_time(best[IN_CUTS]);
+        print_time(best[WHOLE]);
+        printf(" %7.2f\n", best[IN_CUTS] / best[WHOLE]);
+    }
+}
+
 int main(void)
 {
     print_machine(getenv("DESK_EMULATED"));
@@ -205,5 +245,6 @@ int main(void)
                    side == DESK ? "desk" : "plain", few * 1e9, many * 1e9, many / few);
         }
     print_parts();
+    print_reader();
     return 0;
 }
