@@ -48,7 +48,7 @@ static const char cheque[] = "ARBOBRCLCRDOSVECGTGBHNCACOMXNIPAPYPEPRUYUSVE";
 
 static const uint64_t none_taken[1];
 
-enum { MOST = 7679744, CUT = 64 * 1024 };
+enum { MOST = 7679744, CUT = 64 * 1024 }; /* bytes of the longest file, and of a cut of standard input */
 static uint8_t file[MOST + 1], forwarded[MOST + 1], restored[MOST + 1];
 static uint32_t notes[MOST];
 
