@@ -1,8 +1,9 @@
 // Both sides of each edge of document 01, where each rule points (document 02, A1), and the code pages (A2), run: a line
-// for each. Where no page is told it is page 0, and page 1 in the program.
-use libc::STDOUT_FILENO;
+// for each. Where no page is told it is page 0, and page 1 in the program. Files in cuts (A3) are in the crate cuts.
+use drafts::say;
+use drafts::say_answer;
+use drafts::say_number;
 
-mod files;
 mod pages;
 mod places;
 
@@ -14,21 +15,6 @@ const NOTE_PATTERN: u32 = 4022250974;
 
 // The note of document 01's example. The byte 5 higher is the plus sign, which the table keeps.
 const NOTE: u32 = 316198;
-
-fn say(text: &[u8]) {
-    io::write_all(STDOUT_FILENO, text);
-}
-
-fn say_number(name: &[u8], n: u64) {
-    say(name);
-    io::print_decimal(STDOUT_FILENO, n);
-}
-
-fn say_answer(edge: &[u8], number: usize, rec: usize) {
-    say(edge);
-    say_number(b": ", number as u64);
-    say_number(b" at ", rec as u64);
-}
 
 // A line: the edge, its number and record.
 fn tell(edge: &[u8], number: usize, rec: usize) {
@@ -69,9 +55,9 @@ fn judge_at(edge: &[u8], how: &[u8], byte: usize, file: &[u8]) {
 }
 
 fn bytes_after_z() {
-    let file = files::example(b"ANNA BEISPIEL", b"M&M STUDIO");
+    let file = drafts::example(b"ANNA BEISPIEL", b"M&M STUDIO");
     let mut longer = [32u8; 2049];
-    files::put(&mut longer, 0, &file);
+    drafts::put(&mut longer, 0, &file);
     judge(b"no byte after Z", &longer[0..2048], &[]);
     judge(b"one byte after Z", &longer, &[]);
 }
@@ -79,17 +65,17 @@ fn bytes_after_z() {
 // What the program prints of files of 84 and of 85 payments of 1,00.
 fn in_the_program() {
     let mut most = [32u8; 65024];
-    files::many(&mut most, 83, 1, 1, 84, 84);
-    let r = report::tell(&most);
+    drafts::many(&mut most, 83, 1, 1, 84, 84);
+    let r = report::tell(report::read_on(report::start(), &most));
     tell_place(b"84 T records in the program", r.verdict, r.rec, r.at);
     let mut more = [32u8; 65792];
-    files::many(&mut more, 84, 1, 1, 85, 85);
-    let s = report::tell(&more);
+    drafts::many(&mut more, 84, 1, 1, 85, 85);
+    let s = report::tell(report::read_on(report::start(), &more));
     tell_place(b"85 T records in the program", s.verdict, s.rec, s.at);
 }
 
 fn taken_numbers() {
-    let file = files::example(b"ANNA BEISPIEL", b"M&M STUDIO");
+    let file = drafts::example(b"ANNA BEISPIEL", b"M&M STUDIO");
     judge(b"number not taken", &file, &[1224022906, 1224022908]);
     judge(
         b"number twice in the taken list",
@@ -101,7 +87,7 @@ fn taken_numbers() {
 // Eleven payments, ten of 99,999,999,999,999.
 fn sum(edge: &[u8], last: u64, z3: u64) {
     let mut file = [32u8; 8960];
-    files::many(&mut file, 10, 99999999999999, last, z3, 11);
+    drafts::many(&mut file, 10, 99999999999999, last, z3, 11);
     judge(edge, &file, &[]);
 }
 
@@ -179,8 +165,8 @@ fn short(file: &[u8], blank: &[u8]) {
 
 // Document 01's example with a change in each payment.
 fn prepare_edges() {
-    let file = files::example(b"M&M STUDIO", b"M&M STUDIO");
-    let blank = files::example(b"===================================", b"M&M STUDIO");
+    let file = drafts::example(b"M&M STUDIO", b"M&M STUDIO");
+    let blank = drafts::example(b"===================================", b"M&M STUDIO");
     short(&file, &blank);
     ample(&file);
     exact(&file);
@@ -214,7 +200,7 @@ fn example(file: &[u8], out: &mut [u8]) {
 }
 
 fn restore_edges() {
-    let file = files::example(b"ANNA BEISPIEL", b"M&M STUDIO");
+    let file = drafts::example(b"ANNA BEISPIEL", b"M&M STUDIO");
     let mut out = [PATTERN; 2048];
     example(&file, &mut out);
     tell_whether(b"  forwarded with a plus sign there", out[1235] == 43);

@@ -6,8 +6,8 @@ const PLACE: usize = 1235;
 
 // What a byte in the place of text is forwarded as on a page; 0 where its note is another, or the file does not come back.
 fn forwarded(page: u32, byte: u8) -> u8 {
-    let mut file = crate::files::example(b"ANNA BEISPIEL", b"M STUDIO");
-    crate::files::put(&mut file, PLACE, &[byte]);
+    let mut file = drafts::example(b"ANNA BEISPIEL", b"M STUDIO");
+    drafts::put(&mut file, PLACE, &[byte]);
     let mut out = [crate::PATTERN; 2048];
     let mut notes = [crate::NOTE_PATTERN; 1];
     let p = prepare::prepare(
@@ -30,12 +30,12 @@ fn forwarded(page: u32, byte: u8) -> u8 {
 
 // A line: what the byte becomes on both pages.
 fn becomes(name: &[u8], byte: u8) {
-    crate::say(name);
-    crate::say(b": page 0 '");
-    crate::say(&[forwarded(0, byte)]);
-    crate::say(b"', page 1 '");
-    crate::say(&[forwarded(1, byte)]);
-    crate::say(b"'\n");
+    drafts::say(name);
+    drafts::say(b": page 0 '");
+    drafts::say(&[forwarded(0, byte)]);
+    drafts::say(b"', page 1 '");
+    drafts::say(&[forwarded(1, byte)]);
+    drafts::say(b"'\n");
 }
 
 fn german_characters() {
@@ -58,19 +58,19 @@ fn german_characters() {
 // A file with a text written over it, and then the byte at a place.
 fn with(file: &[u8], at: usize, text: &[u8], place: usize, byte: u8) -> [u8; 2048] {
     let mut changed = [32u8; 2048];
-    crate::files::put(&mut changed, 0, file);
-    crate::files::put(&mut changed, at, text);
-    crate::files::put(&mut changed, place, &[byte]);
+    drafts::put(&mut changed, 0, file);
+    drafts::put(&mut changed, at, text);
+    drafts::put(&mut changed, place, &[byte]);
     changed
 }
 
 // Two lines: the judge on both pages.
 fn on_both(rule: &[u8], name: &[u8], file: &[u8]) {
-    crate::say(rule);
-    crate::say(name);
+    drafts::say(rule);
+    drafts::say(name);
     crate::judge_on(0, b", page 0", file, &[]);
-    crate::say(rule);
-    crate::say(name);
+    drafts::say(rule);
+    drafts::say(name);
     crate::judge_on(1, b", page 1", file, &[]);
 }
 
@@ -94,12 +94,12 @@ fn one_page_alone(name: &[u8], byte: u8, file: &[u8], cheque: &[u8]) {
 }
 
 fn judge_on(page: u32, edge: &[u8], file: &[u8], taken: &[u64]) {
-    crate::say_number(b"page ", page as u64);
+    drafts::say_number(b"page ", page as u64);
     crate::judge_on(page, edge, file, taken);
 }
 
 fn prepare_on(page: u32, edge: &[u8], file: &[u8], out: &mut [u8], pattern: &[u8]) {
-    crate::say_number(b"page ", page as u64);
+    drafts::say_number(b"page ", page as u64);
     crate::refused(
         page,
         edge,
@@ -113,7 +113,7 @@ fn prepare_on(page: u32, edge: &[u8], file: &[u8], out: &mut [u8], pattern: &[u8
 // Restore, with a note about a place of Z, which no file yields.
 fn restore_on(page: u32, edge: &[u8], file: &[u8], out: &mut [u8], pattern: &[u8]) {
     let r = restore::restore(page, file, &[460838], &crate::LIST, &crate::LIST, out);
-    crate::say_number(b"page ", page as u64);
+    drafts::say_number(b"page ", page as u64);
     crate::tell(edge, r.number, r.rec);
     crate::tell_whether(b"  output untouched", fields::same(out, pattern));
 }
@@ -160,8 +160,8 @@ fn too_long(file: &[u8; 7679745]) {
 }
 
 pub fn edges() {
-    let file = crate::files::example(b"ANNA BEISPIEL", b"M&M STUDIO");
-    let cheque = crate::files::with_a_cheque();
+    let file = drafts::example(b"ANNA BEISPIEL", b"M&M STUDIO");
+    let cheque = drafts::with_a_cheque();
     german_characters();
     one_page_alone(b"hex 5B", 0x5B, &file, &cheque);
     one_page_alone(b"hex C4", 0xC4, &file, &cheque);

@@ -5,21 +5,21 @@ const BLANK_LINE: [u8; 35] = [32u8; 35];
 // Judges the file with a text written over it at one place.
 fn alone(rule: &[u8], file: &[u8], at: usize, text: &[u8]) {
     let mut wrong = [32u8; 2048];
-    crate::files::put(&mut wrong, 0, file);
-    crate::files::put(&mut wrong, at, text);
+    drafts::put(&mut wrong, 0, file);
+    drafts::put(&mut wrong, at, text);
     crate::judge_at(rule, b", byte ", at, &wrong);
 }
 
 // The same at each of some places, and then with the text at those behind it too.
 fn each(rule: &[u8], file: &[u8], places: &[usize], text: &[u8]) {
     let mut wrong = [32u8; 2048];
-    crate::files::put(&mut wrong, 0, file);
+    drafts::put(&mut wrong, 0, file);
     let mut i = places.len();
     while 0 < i {
         i -= 1;
         let at = places[i];
         alone(rule, file, at, text);
-        crate::files::put(&mut wrong, at, text);
+        drafts::put(&mut wrong, at, text);
         if i + 1 < places.len() {
             crate::judge_at(rule, b", from byte ", at, &wrong);
         }
@@ -91,12 +91,12 @@ fn of_z(file: &[u8]) {
 }
 
 pub fn edges() {
-    let file = crate::files::example(b"ANNA BEISPIEL", b"M&M STUDIO");
+    let file = drafts::example(b"ANNA BEISPIEL", b"M&M STUDIO");
     crate::judge(b"rule 2", &file[0..2047], &[]);
     of_structure(&file);
     of_q(&file);
     of_t(&file);
     of_the_amount(&file);
     of_z(&file);
-    of_a_cheque(&crate::files::with_a_cheque());
+    of_a_cheque(&drafts::with_a_cheque());
 }

@@ -131,15 +131,17 @@ fn in_order(tally: Tally, have: usize) -> bool
     tally.is_steady() & (have < width)
 }
 
-// No answer yet, and the answer of a refusal.
+fn told(verdict: Verdict, changes: usize) -> Answer
+    ensures { λ r. ⌜ r ≡ answered verdict changes ⌝ }
+{
+    Answer { verdict, changes }
+}
+
+// A refusal at record 0.
 fn refusal(number: usize) -> Answer
     ensures { λ r. ⌜ r ≡ answered (refused number 0 0) 0 ⌝ }
 {
-    let verdict = judge::refusal(number, 0, 0);
-    Answer {
-        verdict,
-        changes: 0,
-    }
+    told(judge::refusal(number, 0, 0), 0)
 }
 
 impl Reader {
@@ -207,8 +209,8 @@ impl Reader {
     pub fn feed(mut self, cut: &[u8], transfer: &[u8], cheque: &[u8]) -> Self
         ensures { λ r. ⌜ FedAs self (now (cut .entry)) (now (transfer .entry)) (now (cheque .entry)) r ⌝ }
     {
-        let ended = self.ended;
-        if ended != 0 {
+        let late = self.ended;
+        if late != 0 {
             return self;
         }
         let tally = self.tally;
@@ -245,18 +247,12 @@ impl Reader {
         let verdict = self.judged();
         let number = verdict.number;
         if number != 0 {
-            return Answer {
-                verdict,
-                changes: 0,
-            };
+            return told(verdict, 0);
         }
         if fields::taken(taken, tally.number) {
             return refusal(50);
         }
-        Answer {
-            verdict,
-            changes: tally.changes,
-        }
+        told(verdict, tally.changes)
     }
 
     // The first end answers by its own list; every later one answers the same.

@@ -1,5 +1,5 @@
 use borrow.Author.Needs.{needs}
-use mathlib.Core.Path.{refl, ap, _∙_, sym}
+use mathlib.Core.Path.{_∙_}
 use Rattle.reader.specs.State.{found-refused, found-taken, found-free}
 use Rattle.reader.proofs.Reader.found.Statement.{statement}
 use Rattle.reader.proofs.Reader.found.Tie as tie
@@ -9,8 +9,10 @@ found-spec =
     tie.close
     (tie.spec
     (λ c κs. search needs)
-    (λ c. found-refused (c .before .before .before .before .args .self) _ (c .before .judged .ensures) (c .if1 .taken))
+    (λ c κs. search needs)
+    (λ c. c .told .ensures ∙ found-refused (c .before .before .before .before .before .args .self) _ (c .before .before .judged .ensures) (c .before .if1 .taken))
     (λ c κs. search needs)
     (λ c κs. search needs)
     (λ c. found-taken (c .before .before .before .before .before .before .before .args .self) _ (c .before .before .before .before .judged .ensures) (c .before .before .before .if1 .left) (c .before .before .taken .ensures) (c .before .if2 .taken) (c .refusal .ensures))
-    (λ c. found-free (c .before .before .before .before .before .before .args .self) _ (c .before .before .before .judged .ensures) (c .before .before .if1 .left) (c .before .taken .ensures) (c .if2 .left)))
+    (λ c κs. search needs)
+    (λ c. c .told2 .ensures ∙ found-free (c .before .before .before .before .before .before .before .args .self) _ (c .before .before .before .before .judged .ensures) (c .before .before .before .if1 .left) (c .before .before .taken .ensures) (c .before .if2 .left)))

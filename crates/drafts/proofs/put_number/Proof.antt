@@ -1,8 +1,8 @@
 use mathlib.Core.Path.{_≡_}
 use lib.ListN.{length}
 use borrow.Author.Needs.{needs}
-use Rattle.edges.proofs.files.put_number.Statement.{statement}
-use Rattle.edges.proofs.files.put_number.Tie as tie
+use Rattle.drafts.proofs.put_number.Statement.{statement}
+use Rattle.drafts.proofs.put_number.Tie as tie
 
 abbrev Inv-loop : tie.InvT-loop
 Inv-loop room₀ start end n left₀ place₀ room left place = length room ≡ length room₀

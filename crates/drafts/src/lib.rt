@@ -1,4 +1,20 @@
-// Files for the edges, record by record.
+// Files for the programs that run edges, record by record, and the lines that they print.
+use libc::STDOUT_FILENO;
+
+pub fn say(text: &[u8]) {
+    io::write_all(STDOUT_FILENO, text);
+}
+
+pub fn say_number(name: &[u8], n: u64) {
+    say(name);
+    io::print_decimal(STDOUT_FILENO, n);
+}
+
+pub fn say_answer(edge: &[u8], number: usize, rec: usize) {
+    say(edge);
+    say_number(b": ", number as u64);
+    say_number(b" at ", rec as u64);
+}
 
 // Writes a byte where there is room for it; answers the place behind it.
 fn set(room: &mut [u8], at: usize, b: u8) -> usize {
