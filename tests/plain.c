@@ -1,9 +1,7 @@
-/* The second opinion of the comparison, written from document 01 and requests A1 and A2 of document 02 alone, for
+/* The second opinion of the comparison, written from document 01 and requests A1, A2 and A3 of document 02 alone, for
    plainness and not for speed. The order is document 01's: records, character table, walk, rules, calls. Sentences of
    the papers stand as comments beside what does them. */
 #include "plain.h"
-
-#include <stdbool.h>
 
 /* ---- Lent memory. Only the four functions here read files, country lists and notes, or write to memory, and each of
         them stays inside what it was given. (The taken numbers are read in is_taken alone.) ---- */
@@ -265,7 +263,7 @@ static uint64_t sum(lent file, uint64_t payments, stretch s)
 
 /* ---- Walk ---- */
 
-/* If refused, payments, euros and cents are 0. Rules 1 to 6, 50 and a sound file give 0 as the offset. */
+/* If refused, payments, euros and cents are 0. Rules 1 to 5, 50 and a sound file give 0 as the offset. */
 static plain_judgement refused(uint64_t number, uint64_t record)
 {
     return (plain_judgement){.number = number, .record = record};
@@ -597,6 +595,45 @@ static finding z_rules(rec z, uint64_t payments)
     return NOTHING;
 }
 
+/* ---- Cuts ---- */
+
+/* A file as it arrived: its cuts in their order. */
+typedef struct { const plain_step *cuts; size_t n; } arrival;
+
+static country_lists lists_of(const uint8_t *transfer, size_t nt, const uint8_t *cheque, size_t nc)
+{
+    return (country_lists){.transfer = {transfer, nt}, .cheque = {cheque, nc}};
+}
+
+/* A file that is lent whole is one cut. */
+static plain_step whole(lent file, country_lists lists)
+{
+    return (plain_step){.length = file.n, .transfer = lists.transfer.bytes, .nt = lists.transfer.n,
+                        .cheque = lists.cheque.bytes, .nc = lists.cheque.n};
+}
+
+/* How many bytes the cuts have together. */
+static size_t joined_length(arrival a)
+{
+    size_t length = 0;
+    for (size_t i = 0; i < a.n; i++)
+        length += a.cuts[i].length;
+    return length;
+}
+
+/* A record is judged by the lists of the cut that completes it: the one that holds the record's last byte. */
+static country_lists completing_lists(arrival a, rec t)
+{
+    size_t last_byte = t.start + T_LENGTH - 1;
+    size_t end = 0;
+    for (size_t i = 0; i < a.n; i++) {
+        end += a.cuts[i].length;
+        if (last_byte < end)
+            return lists_of(a.cuts[i].transfer, a.cuts[i].nt, a.cuts[i].cheque, a.cuts[i].nc);
+    }
+    return lists_of(NULL, 0, NULL, 0);      /* not reached: only asked for records that are there */
+}
+
 /* ---- Soundness ---- */
 
 /* A broken rule of content tells its record and its place. */
@@ -606,13 +643,14 @@ static plain_judgement refused_by(finding found, uint64_t record)
 }
 
 /* Content, record by record. The first broken rule ends the judgement there. */
-static plain_judgement content(uint32_t page, lent file, uint64_t payments, country_lists lists)
+static plain_judgement content(uint32_t page, lent file, uint64_t payments, arrival a)
 {
     finding found = q_rules(page, numbered(file, 0));
     if (found.number != 0)
         return refused_by(found, 0);
     for (uint64_t record = 1; record <= payments; record++) {
-        found = t_rules(page, numbered(file, record), numbered(file, 1), lists);
+        rec t = numbered(file, record);
+        found = t_rules(page, t, numbered(file, 1), completing_lists(a, t));
         if (found.number != 0)
             return refused_by(found, record);
     }
@@ -627,17 +665,18 @@ static plain_judgement content(uint32_t page, lent file, uint64_t payments, coun
 }
 
 /* 0 means sound: none of rules 1 to 5 and 10 to 42 is broken. Structure is walked first over the whole file. */
-static plain_judgement soundness(uint32_t page, lent file, country_lists lists)
+static plain_judgement soundness_as_arrived(uint32_t page, lent file, arrival a)
 {
     plain_judgement walked = walk(file);
     if (walked.number != 0)
         return walked;
-    return content(page, file, walked.payments, lists);
+    return content(page, file, walked.payments, a);
 }
 
-static country_lists lists_of(const uint8_t *transfer, size_t nt, const uint8_t *cheque, size_t nc)
+static plain_judgement soundness(uint32_t page, lent file, country_lists lists)
 {
-    return (country_lists){.transfer = {transfer, nt}, .cheque = {cheque, nc}};
+    plain_step all = whole(file, lists);
+    return soundness_as_arrived(page, file, (arrival){&all, 1});
 }
 
 /* ---- Judge ---- */
@@ -657,6 +696,14 @@ static bool is_taken(uint64_t number, const uint64_t *taken, size_t taken_n)
     return false;
 }
 
+/* Rule 50 belongs to the judge alone and comes after all others. For 50, the record is 0. */
+static plain_judgement unless_taken(plain_judgement judgement, lent file, const uint64_t *taken, size_t taken_n)
+{
+    if (judgement.number == 0 && is_taken(file_number(file), taken, taken_n))
+        return refused(50, 0);
+    return judgement;
+}
+
 plain_judgement plain_judge_full(uint32_t page, const uint8_t *file, size_t n,
                                const uint8_t *transfer, size_t nt, const uint8_t *cheque, size_t nc,
                                const uint64_t *taken, size_t taken_n)
@@ -665,11 +712,7 @@ plain_judgement plain_judge_full(uint32_t page, const uint8_t *file, size_t n,
     /* Any other page number is 7, record and offset 0, before every other number. */
     if (!page_exists(page))
         return refused(7, 0);
-    plain_judgement judgement = soundness(page, f, lists_of(transfer, nt, cheque, nc));
-    /* Rule 50 belongs to the judge alone and comes after all others. For 50, the record is 0. */
-    if (judgement.number == 0 && is_taken(file_number(f), taken, taken_n))
-        return refused(50, 0);
-    return judgement;
+    return unless_taken(soundness(page, f, lists_of(transfer, nt, cheque, nc)), f, taken, taken_n);
 }
 
 /* The C call stays on page 0. */
@@ -712,6 +755,12 @@ static size_t change_file(uint32_t page, lent file, uint64_t payments, room out,
     return count;
 }
 
+/* How many characters the table would change in a sound file. */
+static size_t changes_of(uint32_t page, lent file, uint64_t payments)
+{
+    return change_file(page, file, payments, (room){NULL, 0}, (note_room){NULL, 0});
+}
+
 static void copy(lent from, room to)
 {
     for (size_t place = 0; place < from.n; place++)
@@ -731,7 +780,7 @@ static plain_prepared prepare(uint32_t page, lent file, country_lists lists, roo
     if (out.n < file.n)
         return (plain_prepared){.number = 60};
     /* 61: more changes than note places lent */
-    size_t changes = change_file(page, file, judgement.payments, (room){NULL, 0}, (note_room){NULL, 0});
+    size_t changes = changes_of(page, file, judgement.payments);
     if (changes > notes.n)
         return (plain_prepared){.number = 61};
     copy(file, out);
@@ -745,6 +794,40 @@ plain_prepared plain_prepare(uint32_t page, const uint8_t *file, size_t n,
 {
     return prepare(page, (lent){file, n}, lists_of(transfer, nt, cheque, nc),
                    (room){out, out_n}, (note_room){notes, notes_n});
+}
+
+/* ---- Read a file as it arrives ---- */
+
+/* Which step asks for the end first. Bytes handed in after it change nothing. */
+static size_t first_end(const plain_step *steps, size_t steps_n)
+{
+    size_t i = 0;
+    while (i < steps_n && !steps[i].is_end)
+        i++;
+    return i;
+}
+
+static plain_answer with_changes(plain_judgement j, uint64_t changes)
+{
+    return (plain_answer){.number = j.number, .record = j.record, .at = j.at, .payments = j.payments,
+                          .euros = j.euros, .cents = j.cents, .changes = changes};
+}
+
+plain_answer plain_read_in_steps(uint32_t page, const uint8_t *bytes, const plain_step *steps, size_t steps_n)
+{
+    size_t end = first_end(steps, steps_n);
+    arrival a = {steps, end};
+    lent file = {bytes, joined_length(a)};
+    /* Any other page number is 7, record and offset 0, before every other number. */
+    if (!page_exists(page))
+        return (plain_answer){.number = 7};
+    /* Structure still outranks content, and rule 1 outranks all but 7: the walk over the joined bytes comes first. */
+    plain_judgement judgement = soundness_as_arrived(page, file, a);
+    /* Asking for the end again gives the same answer, whatever list is lent: the first end's numbers decide. */
+    judgement = unless_taken(judgement, file, steps[end].taken, steps[end].taken_n);
+    /* With the number of changes (0 if refused; 50 is refused too). */
+    uint64_t changes = judgement.number == 0 ? changes_of(page, file, judgement.payments) : 0;
+    return with_changes(judgement, changes);
 }
 
 /* ---- Restore ---- */

@@ -1,21 +1,21 @@
-/* The second opinion of the comparison: the calls of document 01 in plain C, written from document 01 and requests A1
-   and A2 of document 02 alone, for plainness and not for speed.
+/* The second opinion of the comparison: the calls of document 01 in plain C, written from document 01 and requests A1,
+   A2 and A3 of document 02 alone, for plainness and not for speed.
 
    In every call a file or a list is lent as a pointer and its length; with length 0 the pointer is not followed.
    transfer and cheque are the country lists, two bytes a country, a lone last byte ignored. Memory lent for writing
    (out, notes) must not overlap anything else that is lent. A refused call writes nothing to it.
 
    page is the code page: 0 for DIN 66003, 1 for ISO 8859-1. Any other is 7, before every other number; all other
-   numbers of the answer are then 0.
-
-   Verdict 6 belongs to the program alone and is never answered here. */
+   numbers of the answer are then 0. */
 #ifndef PLAIN_H
 #define PLAIN_H
 
+#include <stdbool.h>
 #include <stddef.h>
 #include <stdint.h>
 
 typedef struct { uint64_t number, record, at, payments, euros, cents; } plain_judgement;
+typedef struct { uint64_t number, record, at, payments, euros, cents, changes; } plain_answer;
 typedef struct { uint64_t number, record, notes; } plain_prepared;
 typedef struct { uint64_t number, record; } plain_restored;
 typedef struct { uint64_t start, length; } plain_part;   /* length 0: no such field; then start is 0 too */
@@ -29,6 +29,23 @@ uint64_t plain_judge(const uint8_t *file, size_t n,
 plain_judgement plain_judge_full(uint32_t page, const uint8_t *file, size_t n,
                                const uint8_t *transfer, size_t nt, const uint8_t *cheque, size_t nc,
                                const uint64_t *taken, size_t taken_n);
+
+/* What is done with a reader: the next bytes are handed in with the country lists, or the end is asked for with the
+   taken numbers. A cut may be empty. */
+typedef struct {
+    bool is_end;
+    size_t length;                              /* of a cut; 0 for an end */
+    const uint8_t *transfer, *cheque;           /* of a cut */
+    size_t nt, nc;
+    const uint64_t *taken;                      /* of an end */
+    size_t taken_n;
+} plain_step;
+
+/* Read a file as it arrives: what the end answers that is asked for last; there has to be one. bytes are those of all
+   cuts, joined, also of those that are handed in after an end. The answer is the judge's over the bytes of the cuts
+   before the first end, with the number of characters that prepare would change, 0 if refused; each payment is judged
+   by the country lists of the cut that completes it. */
+plain_answer plain_read_in_steps(uint32_t page, const uint8_t *bytes, const plain_step *steps, size_t steps_n);
 
 /* Prepare: 7, then soundness, then 60, then 61. An unsound file tells its record; 60, 61 and success have record 0.
    If 0, out begins with the forwarded file and notes begins with the notes; the rest of both is left as it was.
