@@ -25,7 +25,7 @@ static void judge_amount(size_t record, int at)
 {
     sample_z(draft, payments);
     lend_draft();
-    judge_both_ways(broken_at(at == SOUND ? 0 : 33, record, at));
+    judge_each_way(broken_at(at == SOUND ? 0 : 33, record, at));
 }
 
 /* One other byte at each place of T14a, with each T14b behind it. */

@@ -1,7 +1,7 @@
 /* The cases that document 01 names; taken numbers and shown parts; every length; the longest files. */
 #include <string.h>
 
-#include "drafts.h"
+#include "plans.h"
 #include "suites.h"
 
 /* ---- Taken numbers -------------------------------------------------------------------------- */
@@ -21,7 +21,7 @@ static void judge_taken(uint64_t *list, size_t n, size_t first, size_t second, s
         list[i] = i == first || i == second ? file_number() : untaken(i + way);
     lend_taken(list, n);
     due(first < n || second < n ? 50 : 0, 0, 0);
-    judge_full();
+    judge_and_read();
 }
 
 /* The number at each place of short lists, once and twice, and lists without it. */
@@ -49,11 +49,11 @@ static void long_taken_lists(void)
 }
 
 /* Their call answers as the whole judge does on page 0. */
-static void judge_for_payroll_hosts(void)
+static void judge_both_on_page_0(void)
 {
     uint32_t page = code_page();
     use_page(0);
-    const uint64_t *full = judge_full();
+    const uint64_t *full = judge_and_read();
     due(full[1] * 100 + full[0]);
     judge();
     use_page(page);
@@ -70,9 +70,9 @@ void random_taken_numbers(bool sound)
     lend_taken(list, n);
     if (sound)
         due(times ? 50 : 0, 0, 0);
-    judge_full();
+    judge_and_read();
     lend_taken(NULL, 0);
-    judge_for_payroll_hosts();
+    judge_both_on_page_0();
 }
 
 /* ---- Shown parts ---------------------------------------------------------------------------- */
@@ -165,7 +165,7 @@ void each_length(void)
             size_t record = draft_n < 256 ? 0 : 1 + (draft_n - 256) / 768;
             verdict told = broken_at(2, record, 0);
             lend_draft();
-            judge_both_ways(told);
+            judge_each_way(told);
             another_call(draft_n, told);
         }
     }
@@ -175,7 +175,7 @@ void each_length(void)
         draft_n = whole + more;
         verdict told = broken_at(5, 3, 0);
         lend_draft();
-        judge_both_ways(told);
+        judge_each_way(told);
         another_call(more, told);
     }
 }
@@ -199,7 +199,7 @@ static void answers_of_the_example(void)
 {
     worked_example();
     due(0, 0, 0, 2, 199, 125);
-    judge_full();
+    judge_and_read();
     draft[1235] = '+';                                  /* in the draft alone: the file is lent already */
     due(0, 0, 1);
     due_output(draft, draft_n);
@@ -214,7 +214,7 @@ static void short_files(void)
     };
     for (size_t i = 0; i < sizeof files / sizeof files[0]; i++) {
         lend(FILE_IN, files[i].bytes, strlen(files[i].bytes));
-        judge_both_ways(broken_at(files[i].rule, 0, 0));
+        judge_each_way(broken_at(files[i].rule, 0, 0));
     }
 }
 
@@ -224,7 +224,7 @@ static verdict of_code(uint64_t code, int place) { return broken_at(code % 100, 
 static void judge_draft(uint64_t code, int place)
 {
     lend_draft();
-    judge_both_ways(of_code(code, place));
+    judge_each_way(of_code(code, place));
 }
 
 /* Zeros, as long as a file may be and one byte longer. */
@@ -282,7 +282,7 @@ static void edges_of_the_sum(void)
             due(42, 12, 5, 0, 0, 0);
         else
             due(0, 0, 0, 11, 999999999999999u, 1089);
-        judge_full();
+        judge_and_read();
     }
 }
 
@@ -338,21 +338,13 @@ void named_cases(void)
 
 static void long_sound_file(void)
 {
-    payments = MOST_PAYMENTS;
-    draft_n = MOST_FILE;
-    sample_q(draft);
-    for (size_t r = 1; r <= payments; r++)
-        sample_t(record_of(r), (payment_kind)(r % 4), "US", r, r % 100);
-    memcpy(record_of(1) + 475, "'", 1);
-    memcpy(record_of(MOST_PAYMENTS) + 679, "'&", 2);
-    record_of(MOST_PAYMENTS)[713] = 0xFF;
-    sample_z(draft, payments);
+    long_draft();
     lend_draft();
     lend_taken(NULL, 0);
     due(0);
     judge();
     due(0, 0, 0, 9999, 49995000, 495000);
-    judge_full();
+    judge_and_read();
     prepare_pair(true);
     some_rooms_and_changes();
     each_part();
@@ -377,6 +369,7 @@ static void as_many_notes_as_can_be(void)
         if (in_text(at, draft_n))
             draft[at] = changed_into(draft[at]);
     lend_draft();
+    read_lent(broken_at(0, 0, 0));
     prepare_pair(true);
     some_rooms_and_changes();
 }

@@ -1,8 +1,8 @@
-/* Compares the desk's five calls with an independent implementation, answer by answer and byte by byte, and holds both to
-   what the papers ask for.
+/* Compares the desk's calls with an independent implementation, answer by answer and byte by byte, and holds both to what
+   the papers ask for.
 
    compare [--seed N] [--calls N]
-       The fixed part, some 2.8 million calls; then random files, until N calls more are made.
+       The fixed part, some 3.7 million calls; then random files, until N calls more are made.
    compare --seconds N [--seed N]
        Random files alone, for that many seconds.
    compare --replay FILE
@@ -38,10 +38,12 @@ static void fixed_part(void)
 {
     use_annexes();
     each_code_page();
+    each_arrival();
     each_length();
     each_amount();
     near_misses();
     on_each_page();
+    long_arrivals();
     sweep();
 }
 
@@ -64,6 +66,7 @@ static void every_call(bool sound)
     if (one_in(8))
         random_page_number();
     random_taken_numbers(sound);
+    random_arrival();
     random_parts();
     if (draft_n < 512) {
         size_t room = one_in(2) ? draft_n : below(draft_n + 50), places = below(100);

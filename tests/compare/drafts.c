@@ -140,7 +140,7 @@ static void fill_one(uint8_t *at, size_t n) { put_one(at, n, filled_byte()); }
 
 /* ---- The draft ----------------------------------------------------------------------------- */
 
-uint8_t draft[MOST_FILE + SPARE];
+uint8_t draft[MOST_FED];
 size_t draft_n, payments;
 
 uint8_t *record_of(size_t r) { return draft + (r == 0 ? 0 : 256 + (r - 1) * 768); }
@@ -267,4 +267,17 @@ bool random_file(size_t count, const payment_kind *kinds, int mode)
         sound &= random_payment(record_of(r), kinds ? kinds[r - 1] : (payment_kind)below(4), mode);
     sample_z(draft, count);
     return sound;
+}
+
+void long_draft(void)
+{
+    payments = MOST_PAYMENTS;
+    draft_n = MOST_FILE;
+    sample_q(draft);
+    for (size_t r = 1; r <= payments; r++)
+        sample_t(record_of(r), (payment_kind)(r % 4), "US", r, r % 100);
+    memcpy(record_of(1) + 475, "'", 1);
+    memcpy(record_of(MOST_PAYMENTS) + 679, "'&", 2);
+    record_of(MOST_PAYMENTS)[713] = 0xFF;
+    sample_z(draft, payments);
 }

@@ -35,7 +35,7 @@ uint8_t changed_into(uint8_t r);                    /* a byte that becomes this 
 
 /* ---- The draft ----------------------------------------------------------------------------- */
 
-extern uint8_t draft[MOST_FILE + SPARE];
+extern uint8_t draft[MOST_FED];
 extern size_t draft_n, payments;
 
 uint8_t *record_of(size_t r);
@@ -46,5 +46,8 @@ void spoil_any_byte(void);
 /* A draft of the given payments; kinds may be left to chance. mode: 0 plain capitals, 1 mixed, 2 all bytes, 3 only bytes
    that become spaces. Answers whether it is sound: it is not where no country is listed, or wrong ones are wanted. */
 bool random_file(size_t count, const payment_kind *kinds, int mode);
+
+/* The longest sound draft by the annexes: payments of all kinds, the n-th of n euros, with a few changed characters. */
+void long_draft(void);
 
 #endif

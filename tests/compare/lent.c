@@ -9,9 +9,7 @@
 #include <sys/mman.h>
 #include <unistd.h>
 
-#include "../plain.h"
-#include "../sample.h"
-#include "desk.h"
+#include "../reader.h"
 #include "paper.h"
 
 /* ---- Lent memory -------------------------------------------------------------------------- */
@@ -23,9 +21,10 @@ enum { ANSWER_DUE = LENT, OUTPUT_DUE, NOTES_DUE, STRETCHES };
 typedef struct { uint8_t *write, *lent; } area;     /* both are the end of the memory */
 
 static const size_t most_bytes[STRETCHES] = {
-    MOST_FILE + SPARE, SPARE, SPARE, SPARE, 4 * MOST_NOTES + SPARE, SPARE, MOST_FILE + SPARE, 4 * MOST_NOTES + SPARE
+    MOST_FED, SPARE, SPARE, SPARE, 4 * MOST_NOTES + SPARE, SPARE, SPARE, SPARE, SPARE,
+    SPARE, MOST_FILE + SPARE, 4 * MOST_NOTES + SPARE
 };
-static area stretch[STRETCHES], output[SIDES], note_places[SIDES];
+static area stretch[STRETCHES], cut, output[SIDES], note_places[SIDES];
 static uint8_t pattern[4 * MOST_NOTES + SPARE];     /* what outputs hold before a call */
 
 static void *mapped(void *p)
@@ -54,14 +53,15 @@ static area make_area(size_t bytes, bool read_only)
 
 /* ---- One request -------------------------------------------------------------------------- */
 
-static const char *const call_name[CALLS] = {"judge", "judge_full", "prepare", "restore", "show"};
+static const char *const call_name[CALLS] = {"judge", "judge_full", "prepare", "restore", "show", "read_in_steps"};
 static const char *const stretch_name[STRETCHES] = {
-    "file", "transfer", "cheque", "taken", "notes", "answer-due", "output-due", "notes-due"
+    "file", "transfer", "cheque", "taken", "notes", "other-transfer", "other-cheque", "other-taken", "steps",
+    "answer-due", "output-due", "notes-due"
 };
-enum { NUMBERS = 6 };
+enum { NUMBERS = 7 };
 static const char *const answer_name[CALLS][NUMBERS] = {
     {"code"}, {"number", "record", "at", "payments", "euros", "cents"}, {"number", "record", "notes"},
-    {"number", "record"}, {"start", "length"}
+    {"number", "record"}, {"start", "length"}, {"number", "record", "at", "payments", "euros", "cents", "changes"}
 };
 
 typedef struct {
@@ -97,6 +97,7 @@ void lend(int which, const void *bytes, size_t n)
 }
 
 uint8_t *lent_file(size_t at) { return stretch[FILE_IN].write - back(FILE_IN) + at; }
+size_t lent_file_n(void) { return now.size[FILE_IN]; }
 void shift_file(size_t bytes) { now.shift = bytes; }
 void use_page(uint32_t page) { now.page = page; }
 uint32_t code_page(void) { return now.page; }
@@ -108,6 +109,28 @@ static void fill_outputs(int side)
 {
     memcpy(out_of(side) - APRON, pattern, APRON + now.room);
     memcpy((uint8_t *)notes_of(side) - APRON, pattern, APRON + 4 * now.places);
+}
+
+const uint8_t *lent_cut(const uint8_t *bytes, size_t n)
+{
+    memcpy(cut.write - n, bytes, n);
+    return cut.lent - n;
+}
+
+/* The lent steps as both sides take them, with the lists that they name. */
+static const plain_step *steps_for_both(void)
+{
+    static plain_step steps[MOST_STEPS];
+    const step *s = lent(STEPS);
+    for (size_t i = 0; i < now.size[STEPS] / sizeof *s; i++) {
+        int transfer = s[i].other_transfer ? OTHER_TRANSFER : TRANSFER;
+        int cheque = s[i].other_cheque ? OTHER_CHEQUE_LIST : CHEQUE_LIST;
+        int taken = s[i].other_taken ? OTHER_TAKEN : TAKEN;
+        steps[i] = s[i].is_end ? (plain_step){.is_end = true, .taken = lent(taken), .taken_n = now.size[taken] / 8}
+            : (plain_step){.length = s[i].length, .transfer = lent(transfer), .nt = now.size[transfer],
+                           .cheque = lent(cheque), .nc = now.size[cheque]};
+    }
+    return steps;
 }
 
 typedef uint64_t desk_code, plain_code;
@@ -143,12 +166,16 @@ static void ask(int side)
     case SHOW:
         ASK(show, part, file, n, now.record, now.field);
         break;
+    case READ:
+        ASK(read_in_steps, answer, now.page, file, steps_for_both(), now.size[STEPS] / sizeof(step));
+        break;
     }
     running = -1;
 }
 
 /* The call for payroll hosts stays on page 0, and show reads no table. */
 static bool names_page(void) { return now.call != JUDGE && now.call != SHOW; }
+static bool judges_fully(void) { return now.call == JUDGE_FULL || now.call == READ; }
 
 /* ---- Differences -------------------------------------------------------------------------- */
 
@@ -168,7 +195,8 @@ static void print_answer(int side)
 
 static void write_stretch(FILE *f, int which)
 {
-    const bool used[LENT] = {true, now.call != SHOW, now.call != SHOW, now.call == JUDGE_FULL, now.call == RESTORE};
+    const bool lists = now.call != SHOW, reading = now.call == READ;
+    const bool used[LENT] = {true, lists, lists, judges_fully(), now.call == RESTORE, reading, reading, reading, reading};
     size_t n = which >= LENT || used[which] ? now.size[which] : 0;
     const uint8_t *bytes = lent(which);
     fprintf(f, "%s %zu\n", stretch_name[which], n);
@@ -270,9 +298,9 @@ static void check_answer(int side)
         differ("7 is told exactly where there is no such page");
     if (names_page() && (a[0] == 0 || a[0] == 7 || a[0] >= 50) && a[1] != 0)
         differ("record 0 expected");
-    if (now.call == JUDGE_FULL && a[0] && (a[3] || a[4] || a[5]))
-        differ("sums answered though refused");
-    if (now.call == JUDGE_FULL && !may_point_to(a[0], a[2]))
+    if (judges_fully() && a[0] && (a[3] || a[4] || a[5] || a[6]))
+        differ("sums or changes answered though refused");
+    if (judges_fully() && !may_point_to(a[0], a[2]))
         differ("no field of the rule begins at this place");
     if (now.call == SHOW && (a[1] ? a[0] > now.size[FILE_IN] || a[1] > now.size[FILE_IN] - a[0] : a[0] != 0))
         differ("part outside the file, or an empty part with a place");
@@ -355,6 +383,19 @@ const uint64_t *prepare(size_t room, size_t places) { return call_with(PREPARE, 
 const uint64_t *restore(size_t room) { return call_with(RESTORE, room, 0, 0, 0); }
 const uint64_t *show(uint64_t record, uint64_t field) { return call_with(SHOW, 0, 0, record, field); }
 
+const uint64_t *read_in_steps(const step *steps, size_t n)
+{
+    size_t length = 0;
+    for (size_t i = 0; i < n; i++)
+        length += steps[i].length;
+    if (n == 0 || !steps[n - 1].is_end || length > now.size[FILE_IN]) {
+        fprintf(stderr, "%zu steps with %zu bytes: no end, or more than is lent\n", n, length);
+        exit(2);
+    }
+    lend(STEPS, steps, n * sizeof *steps);
+    return call_with(READ, 0, 0, 0, 0);
+}
+
 const uint8_t *output_left(void) { return out_of(DESK); }
 const uint32_t *notes_left(void) { return notes_of(DESK); }
 uint64_t calls_made(void) { return calls; }
@@ -365,6 +406,7 @@ void open_areas(const char *cases)
     kept_name = cases;
     for (int i = 0; i < STRETCHES; i++)
         stretch[i] = make_area(most_bytes[i], true);
+    cut = make_area(MOST_FED, true);
     for (int s = 0; s < SIDES; s++) {
         output[s] = make_area(MOST_FILE + SPARE, false);
         note_places[s] = make_area(4 * MOST_NOTES + SPARE, false);
@@ -431,6 +473,17 @@ static bool read_case(FILE *f)
     return true;
 }
 
+static void print_steps(void)
+{
+    const step *s = lent(STEPS);
+    for (size_t i = 0; i < now.size[STEPS] / sizeof *s && i < 20; i++)
+        if (s[i].is_end)
+            printf("  end, with the %staken numbers\n", s[i].other_taken ? "other " : "");
+        else
+            printf("  cut of %" PRIu32 " bytes, with the %stransfer list and the %scheque list\n", s[i].length,
+                   s[i].other_transfer ? "other " : "", s[i].other_cheque ? "other " : "");
+}
+
 static void print_run(int side)
 {
     fill_outputs(side);
@@ -453,6 +506,8 @@ int replay(const char *name)
         fprintf(stderr, "%s: no kept case\n", name);
         return 2;
     }
+    if (now.call == READ)
+        print_steps();
     print_run(DESK);
     print_run(PLAIN);
     run();                                          /* tells a difference, if there is one */

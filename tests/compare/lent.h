@@ -9,10 +9,18 @@
 #include <stddef.h>
 #include <stdint.h>
 
-enum { JUDGE, JUDGE_FULL, PREPARE, RESTORE, SHOW, CALLS };
-enum { FILE_IN, TRANSFER, CHEQUE_LIST, TAKEN, NOTES_IN, LENT };
+#include "../sample.h"
+
+enum { JUDGE, JUDGE_FULL, PREPARE, RESTORE, SHOW, READ, CALLS };
+enum { FILE_IN, TRANSFER, CHEQUE_LIST, TAKEN, NOTES_IN, OTHER_TRANSFER, OTHER_CHEQUE_LIST, OTHER_TAKEN, STEPS, LENT };
 
 enum { SPARE = 1 << 18 };                           /* the longest list, in bytes */
+enum { MOST_FED = 3 * MOST_FILE };                  /* the longest file */
+
+/* A step of a reading: a cut, which is the next bytes of the lent file, or the end. Those of its lists that are so named
+   are the other ones that are lent: of a cut the two country lists, of an end the taken numbers. */
+typedef struct { uint32_t length; uint8_t is_end, other_transfer, other_cheque, other_taken; } step;
+enum { MOST_STEPS = SPARE / sizeof(step) };
 
 /* Makes the memory. Cases that differ are kept under this name, with the call's number and .txt behind it. */
 void open_areas(const char *cases);
@@ -20,8 +28,9 @@ void open_areas(const char *cases);
 /* Lends bytes for reading, to this and the following calls. */
 void lend(int which, const void *bytes, size_t n);
 
-/* A place in the lent file, for changing it there. */
+/* A place in the lent file, for changing it there; and its length. */
 uint8_t *lent_file(size_t at);
+size_t lent_file_n(void);
 
 /* As many bytes then stand between the lent file and the closed page; before the file is lent. */
 void shift_file(size_t bytes);
@@ -37,12 +46,17 @@ void due_numbers(const uint64_t *numbers, size_t n);
 void due_output(const uint8_t *bytes, size_t n);
 void due_notes(const uint32_t *notes, size_t n);
 
-/* The calls. Each answers the numbers that both sides gave, six at most, the others 0. */
+/* The calls. Each answers the numbers that both sides gave, seven at most, the others 0. Reading answers what the end
+   answers that is asked for last: the last step is an end. The cuts have no more bytes together than the lent file. */
 const uint64_t *judge(void);
 const uint64_t *judge_full(void);
 const uint64_t *prepare(size_t room, size_t places);
 const uint64_t *restore(size_t room);
 const uint64_t *show(uint64_t record, uint64_t field);
+const uint64_t *read_in_steps(const step *steps, size_t n);
+
+/* Lends a cut to the desk's reader, until the next one is lent. */
+const uint8_t *lent_cut(const uint8_t *bytes, size_t n);
 
 /* What the last prepare left: the output, and the note places. */
 const uint8_t *output_left(void);

@@ -2,7 +2,7 @@
    field; text that is filled on one page and blank on the other; pairs of one page on the other. */
 #include <string.h>
 
-#include "drafts.h"
+#include "plans.h"
 #include "suites.h"
 
 /* ---- A file of two payments ------------------------------------------------------------------ */
@@ -58,7 +58,7 @@ static void judge_by_number(verdict told, bool taken)
         due(0, 0, 0, 2, 199, 125);
     else
         due(told.rule, told.record, told.at, 0, 0, 0);
-    judge_full();
+    judge_and_read();
     lend_taken(NULL, 0);
 }
 
@@ -147,7 +147,7 @@ void random_page_number(void)
     size_t room = one_in(2) ? draft_n : below(draft_n + 50), places = below(1000);
     use_page(no_such_page());
     due(7, 0, 0, 0, 0, 0);
-    judge_full();
+    judge_and_read();
     due(7, 0, 0);
     prepare(room, places);
     due(7, 0);
@@ -189,7 +189,7 @@ static void change_one(uint32_t page, size_t at, const character *c)
     use_page(page);
     lend_draft();
     due(0, 0, 0, 2, 199, 125);
-    judge_full();
+    judge_and_read();
     due(0, 0, 1);
     due_output(forwarded, draft_n);
     due_notes(&note, 1);
@@ -259,7 +259,7 @@ static void judge_on_both(const verdict told[PAGES])
 {
     for (uint32_t page = 0; page < PAGES; page++) {
         use_page(page);
-        judge_lent(told[page]);
+        read_lent(told[page]);
         due(100 * told[0].record + told[0].rule);
         judge();
         for (size_t turn = 0; turn < 4; turn++)

@@ -1,7 +1,7 @@
 /* Prepare and restore: rooms, pairs that are right, and pairs that are changed in one way. */
 #include <string.h>
 
-#include "drafts.h"
+#include "plans.h"
 #include "suites.h"
 
 static uint8_t forwarded[MOST_FILE + SPARE], changed_file[MOST_FILE + SPARE];
@@ -302,6 +302,7 @@ void each_room_and_pair(void)
         size_t count = 1 + below(3);
         bool sound = random_file(count, NULL, (int)below(3));
         lend_draft();
+        judge_and_read();
         prepare_pair(sound);
         for (size_t k = 0; k < 36; k++)
             rooms(k / 6, k % 6);

@@ -2,6 +2,8 @@
 
 #include <string.h>
 
+#include "../sample.h"
+
 const place text_field[10] = {
     {0, -1}, {23, 162}, {53, 63}, {67, 206}, {210, 349}, {420, 454}, {475, 614}, {623, 647}, {652, 678}, {679, 713}
 };
@@ -61,6 +63,13 @@ size_t forwarded_of(uint32_t page, const uint8_t *file, size_t n, uint8_t *forwa
             k = forward_field(page, forwarded, at + (size_t)text_field[f].first, width, notes, k);
         }
     return k;
+}
+
+size_t changes_of(uint32_t page, const uint8_t *file, size_t n)
+{
+    static uint8_t forwarded[MOST_FILE];
+    static uint32_t notes[MOST_NOTES];
+    return forwarded_of(page, file, n, forwarded, notes);
 }
 
 bool has_day(unsigned year, unsigned month, unsigned day)

@@ -1,4 +1,4 @@
-/* What the tests themselves take from document 01 and from requests A1 and A2 of document 02: where text stands, what the
+/* What the tests themselves take from document 01 and from requests A1 to A3 of document 02: where text stands, what the
    table makes of it, dates, lists, where a broken rule points to. Both sides of the comparison are held to what follows. */
 #ifndef PAPER_H
 #define PAPER_H
@@ -25,6 +25,9 @@ bool in_text(size_t at, size_t n);
 
 /* The forwarded file of a sound file, and its notes; answers how many there are. */
 size_t forwarded_of(uint32_t page, const uint8_t *file, size_t n, uint8_t *forwarded, uint32_t *notes);
+
+/* How many characters of a sound file the table changes. */
+size_t changes_of(uint32_t page, const uint8_t *file, size_t n);
 
 /* Whether a year 2000 to 2099 has this day. */
 bool has_day(unsigned year, unsigned month, unsigned day);

@@ -167,7 +167,7 @@ static void spoil_and_judge(const row *w, size_t record, size_t way)
     memcpy(kept, r, 768);
     spoil(w, r, way);
     lend_draft();
-    judge_both_ways(told);
+    judge_each_way(told);
     another_call(way + record, told);
     memcpy(r, kept, 768);
 }
@@ -185,6 +185,17 @@ void each_rule_alone(void)
         for (const char *who = w->who; *who; who++)
             for (size_t payment = 1; payment <= 3; payment++)
                 one_rule_alone(w, *who, payment);
+}
+
+void with_each_rule_broken(void (*then)(verdict told))
+{
+    for (const row *w = rows; w < rows + ROWS; w++)
+        for (const char *who = w->who; *who; who++)
+            for (size_t payment = 1; payment <= 3; payment++) {
+                size_t record = file_to_spoil(*who, payment);
+                spoil(w, record_of(record), below(ways(w)));
+                then(verdict_of(w, record));
+            }
 }
 
 void random_rule_alone(void)
@@ -218,7 +229,7 @@ static void spoil_set(const row *const found[ROWS], unsigned set, char who, size
             told = first_of(told, verdict_of(found[i], record));
         }
     lend_draft();
-    judge_both_ways(told);
+    judge_each_way(told);
     another_call(set + payment, told);
 }
 
@@ -286,7 +297,7 @@ static void pair_of_rules(const row *v, const row *w, size_t turn)
         return;
     verdict told = first_of(verdict_of(v, at_v), verdict_of(w, at_w));
     lend_draft();
-    judge_both_ways(told);
+    judge_each_way(told);
     another_call(turn / 2, told);
 }
 

@@ -13,6 +13,7 @@
 void each_rule_alone(void);
 void each_set_of_fields(void);
 void each_pair_of_rules(void);
+void with_each_rule_broken(void (*then)(verdict told));             /* the draft is not yet lent */
 void break_rules_at_random(void);                   /* in the draft; what is then due is not known */
 void random_rule_alone(void);
 void random_pair_of_rules(void);
@@ -34,9 +35,16 @@ void random_reading(void);
 uint32_t no_such_page(void);                        /* a number that no page has */
 void random_page_number(void);                      /* such a number, with the draft as it is lent */
 
+/* cuts.c: what request A3 names of files as they arrive, on both pages; it leaves page 0 in use. */
+void each_arrival(void);
+void long_arrivals(void);
+void random_arrival(void);                          /* of the draft, with the lists in use */
+
 /* verdicts.c: what is due of each call, on the draft as it is lent, without taken numbers. The verdict on it is known. */
 void judge_lent(verdict told);
-void judge_both_ways(verdict told);                 /* on page 0 by the call for payroll hosts too, which stays there */
+void read_lent(verdict told);                       /* by the judge, and in cuts */
+void judge_for_payroll_hosts(verdict told);         /* on page 0; on another one there is no such call */
+void judge_each_way(verdict told);                  /* in all three ways */
 void another_call(size_t turn, verdict told);
 void show_part(uint64_t record, uint64_t field, bool walked);       /* walked: no rule of 1 to 5 is broken */
 

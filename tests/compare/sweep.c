@@ -3,7 +3,7 @@
    due is worked out for each from the paper. */
 #include <string.h>
 
-#include "drafts.h"
+#include "plans.h"
 #include "suites.h"
 
 /* ---- A file of one transfer and one cheque --------------------------------------------------- */
@@ -136,13 +136,13 @@ static unsigned rule_broken(const stretch *s, char who, int at, uint8_t old, con
     return r[at] == old ? 0 : s->digit_rule;
 }
 
-/* Every fourth time by the call for payroll hosts too. */
+/* Every fourth time by the reader and by the call for payroll hosts too. */
 static void judge_draft(verdict told)
 {
     static unsigned turn = 0;
     lend_draft();
     if (turn++ % 4 == 0)
-        judge_both_ways(told);
+        judge_each_way(told);
     else
         judge_lent(told);
 }
@@ -222,6 +222,7 @@ static void each_byte_prepared(void)
         fill_text(record_of(2), 4, 4, from);
         fill_text(record_of(2), 6, 9, from);
         lend_draft();
+        read_lent(broken_at(0, 0, 0));
         prepare_pair(true);
         for (int k = 0; k < 4; k++) {
             random_rooms();
@@ -358,7 +359,7 @@ static void make_mistake(const mistake *m)
     verdict told = broken_at(m->rule, m->record, m->at);
     put_on_page(record_of(m->record) + m->at, m->bytes, strlen(m->bytes));
     lend_draft();
-    judge_both_ways(told);
+    judge_each_way(told);
     for (size_t turn = 0; turn < 4; turn++)
         another_call(turn, told);
 }
@@ -400,7 +401,7 @@ static void each_total(void)
         lend_taken(NULL, 0);
         lend_draft();
         due(0, 0, 0, 2, amounts[i] + 79, 125);
-        judge_full();
+        judge_and_read();
         judge_totals(amounts[i] + 79, 5, 42);
         judge_totals(2, 20, 41);
     }
@@ -423,10 +424,12 @@ static void judge_some_payments(size_t count)
     draft_n = file_bytes(count);
     lend_draft();
     due(0, 0, 0, count, euros, 7 * count);
-    judge_full();
+    judge_and_read();
     bool by_count = count % 2 == 0;
     put_number(lent_file(z_at + (by_count ? 20 : 5)), 15, by_count ? count + 1 : euros + count);
-    judge_both_ways(broken_at(by_count ? 41 : 42, count + 1, 0));
+    verdict told = broken_at(by_count ? 41 : 42, count + 1, 0);
+    judge_lent(told);
+    judge_for_payroll_hosts(told);
     memcpy(draft + z_at, z, 256);
 }
 

@@ -1,5 +1,5 @@
 /* What is due of each call, on a draft on which the verdict is known. */
-#include "drafts.h"
+#include "plans.h"
 #include "suites.h"
 
 void judge_lent(verdict told)
@@ -8,13 +8,24 @@ void judge_lent(verdict told)
     judge_full();
 }
 
-void judge_both_ways(verdict told)
+void read_lent(verdict told)
 {
-    judge_lent(told);
+    due(told.rule, told.record, told.at);
+    judge_and_read();
+}
+
+void judge_for_payroll_hosts(verdict told)
+{
     if (code_page() != 0)
-        return;                                         /* that call stays on page 0 */
+        return;                                         /* their call stays there */
     due(100 * told.record + told.rule);
     judge();
+}
+
+void judge_each_way(verdict told)
+{
+    read_lent(told);
+    judge_for_payroll_hosts(told);
 }
 
 void show_part(uint64_t record, uint64_t field, bool walked)
@@ -34,7 +45,7 @@ static void judge_a_taken_number(verdict told)
     uint64_t number = file_number();
     lend_taken(&number, 1);
     due(told.rule ? told.rule : 50, told.record, told.at, 0, 0, 0);
-    judge_full();
+    judge_and_read();
     lend_taken(NULL, 0);
 }
 
