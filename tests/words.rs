@@ -53,7 +53,7 @@ fn kinds() {
     }
     let every_rule_but_1 = (0..=5).chain(10..=16).chain(20..=35).chain(40..=42).chain([50]).filter(|&n| n != 1);
     assert!(every_rule_but_1.into_iter().all(|number| numbers.contains(&number)));
-    for number in (60..=100).chain([1, 7]) {
+    for number in (60..=100).chain([1, 6, 7]) {
         let refusal = Refusal { number, record: 0, at: 0 };
         assert_eq!((refusal.kind(), refusal.columns()), (None, None), "{number}");
         assert_eq!(c::kind(number), None, "{number}");
