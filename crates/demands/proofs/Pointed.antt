@@ -6,9 +6,8 @@ use mathlib.Core.Bool.{Bool, true, false}
 use mathlib.Core.List.{List, [], _∷_}
 use mathlib.Core.Logic.{_⊎_, _↔_, inl, inr}
 use native.Mathlib.Omega.{arith}
-use borrow.Author.Tests.{eqb-true, eqb-false, ltb-true, ltb-false}
-use lib.Dec.{eqb, ltb, lit≤}
-use lib.ListN.{length}
+use borrow.Author.Tests.{eqb-true, eqb-false}
+use lib.Dec.{eqb, lit≤}
 use Rattle.laws.specs.Choice.{either}
 use Rattle.charset.specs.Table.{isPage}
 use Rattle.records.specs.Places.{tPlace, zPlace}
@@ -20,13 +19,13 @@ use Rattle.payments.specs.Rules.{keyOf, isTransfer, fields27}
 use Rattle.structure.specs.Slots.{slotAt}
 use Rattle.structure.specs.Walk.{letterOf}
 use Rattle.judge.specs.Sums.{euroSum, fileNumber}
-use Rattle.judge.specs.Verdict.{verdictOf, judgeOf, JudgedAs}
+use Rattle.judge.specs.Verdict.{verdictOf, judgeOf}
 use Rattle.judge.specs.declared.Verdict.{Verdict}
 use Rattle.report.specs.Annexes.{annexI, annexII}
 use Rattle.demands.specs.Demand1.{FileRule}
 use Rattle.demands.specs.Where.{qFields, tFields, zFields, ofRule, fieldsOf, WrongAt, pointsToT14a, Points, Named, PlacesNamed, JudgeAtZero, TellAtZero}
 use Rattle.demands.specs.Program.{verdictIn}
-use Rattle.demands.proofs.Demand1.{told, rule-not-7, not-7, judge-numbers}
+use Rattle.demands.proofs.Demand1.{told, rule-not-7}
 use Rattle.demands.proofs.Demand2.{low, judged}
 use Rattle.demands.proofs.Prepare.{rule-below}
 use Rattle.demands.proofs.Program.{tell-numbers, tell-answers, never-shows}

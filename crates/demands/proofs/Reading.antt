@@ -5,19 +5,17 @@ use mathlib.Core.Bool.{Bool, true, false, cond}
 use mathlib.Core.List.{List, []}
 use mathlib.Core.Logic.{_⊎_, inl, inr}
 use native.Mathlib.Omega.{arith}
-use borrow.Author.Tests.{eqb-true, eqb-false}
+use borrow.Author.Tests.{eqb-false}
 use lib.Dec.{eqb, leb}
 use lib.ListN.{length}
-use Rattle.laws.specs.Choice.{on-eq, off-eq, either}
+use Rattle.laws.specs.Choice.{on-eq, off-eq}
 use Rattle.charset.specs.Table.{isPage}
-use Rattle.fields.specs.Lists.{isTaken}
-use Rattle.structure.specs.Slots.{slotAt}
 use Rattle.structure.specs.Walk.{structureOf}
 use Rattle.structure.specs.declared.Shape.{Shape}
 use Rattle.structure.specs.declared.Shape.the-variants.{Fits, Refused}
 use Rattle.judge.specs.Content.{ruleFrom, ruleEnd, rule-real}
-use Rattle.judge.specs.Meaning.{FirstBroken, broken}
-use Rattle.judge.specs.Sums.{euroSum, centSum, fileNumber}
+use Rattle.judge.specs.Meaning.{broken}
+use Rattle.judge.specs.Sums.{euroSum, centSum}
 use Rattle.judge.specs.Verdict.{refused, sound, unless, verdictBy, verdictOf, orTaken, judgeOf}
 use Rattle.judge.specs.declared.Verdict.{Verdict}
 use Rattle.forwarding.specs.Forwarded.{notesOf}

@@ -1,15 +1,15 @@
 -- What the end answers after any cuts is what the reading means; and, with one pair of lists throughout, it is the judge's
 -- answer over the joined bytes.
 use Prim.Native.Nat.{ℕ, suc, _+_, _-_, _≤_, _<_, min}
-use mathlib.Core.List.{List, [], _∷_}
+use mathlib.Core.List.{List, []}
 use mathlib.Core.Path.{_≡_, refl, sym, ap, ap₂, subst, _∙_}
 use mathlib.Core.Bool.{Bool, true, false, cond}
 use mathlib.Core.Logic.{inl, inr}
 use native.Mathlib.Omega.{arith}
-use borrow.Author.Tests.{ltb-true, ltb-false, eqb-true, eqb-false, lt-ltb, le-ltb}
+use borrow.Author.Tests.{ltb-true, ltb-false, eqb-true, eqb-false}
 use lib.Dec.{eqb, ltb}
-use lib.ListN.{length, take, drop}
-use Rattle.laws.specs.Choice.{on, off, on-eq, off-eq, on-lt}
+use lib.ListN.{length}
+use Rattle.laws.specs.Choice.{on-eq, off-eq, on-lt}
 use Rattle.charset.specs.Table.{isPage}
 use Rattle.fields.specs.Lists.{isTaken}
 use Rattle.records.specs.Places.{recordAt}
@@ -25,16 +25,16 @@ use Rattle.judge.specs.declared.Verdict.{Verdict}
 use Rattle.forwarding.specs.Forwarded.{notesOf}
 use Rattle.tally.specs.declared.Tally.{Tally}
 use Rattle.tally.specs.Record.{breachIn, orNext}
-use Rattle.tally.specs.Settle.{stopAt, stopped}
-use Rattle.tally.specs.Conclude.{EndsIn, ends-in, atZ, concludeOf, too-long, has-stopped, ends-broken, ends-whole}
+use Rattle.tally.specs.Settle.{stopAt}
+use Rattle.tally.specs.Conclude.{ends-in, atZ, concludeOf, too-long, has-stopped, ends-broken, ends-whole}
 use Rattle.reader.specs.declared.Answer.{Answer}
 use Rattle.reader.specs.declared.Reader.{Reader}
 use Rattle.reader.specs.declared.Read.{Read}
-use Rattle.reader.specs.Cuts.{Cut, joined, holding, completing, readContent, readBy, readVerdict, readJudged, readingOf}
+use Rattle.reader.specs.Cuts.{Cut, joined, readBy, readVerdict, readJudged, readingOf}
 use Rattle.reader.specs.State.{Mid, mid, pending, answered, inOrder, newOf, judgedOf, orTakenBy, foundOf, readOf, endOf}
-use Rattle.reader.specs.Course.{tallyAt, next-is, goes, next-place, Runs, Stops, Course}
+use Rattle.reader.specs.Course.{tallyAt, next-is, goes, next-place, Stops, Course}
 use Rattle.reader.specs.Figures.{euros-are, cents-are, number-is, changes-are, content-is}
-use Rattle.reader.specs.Reading.{fedAll, ReadTo, ReadAll, all-read, in-order}
+use Rattle.reader.specs.Reading.{fedAll, ReadAll, all-read, in-order}
 
 module _ (page : ℕ) (cuts : List Cut) where
   abbrev file : List ℕ

@@ -7,7 +7,7 @@ use native.Mathlib.Omega.{arith}
 use borrow.Author.Tests.{eqb-true, eqb-false, ne-eqb, le-leb, lt-leb}
 use lib.Dec.{eqb, leb}
 use lib.ListN.{length, take, drop, replicate}
-use Rattle.laws.specs.Choice.{on-eq, off-eq}
+use Rattle.laws.specs.Choice.{off-eq}
 use Rattle.laws.specs.Scan.{run, from}
 use Rattle.records.specs.Places.{recordAt}
 use Rattle.payments.specs.Rules.{keyOf}
@@ -17,8 +17,7 @@ use Rattle.structure.specs.Slots.{slotAt, widthAt, place-is, later-width}
 use Rattle.structure.specs.Fits.{Fit}
 use Rattle.judge.specs.First.{none, firstBroken}
 use Rattle.judge.specs.Content.{faultOf, ruleFrom, ruleEnd}
-use Rattle.judge.specs.Sums.{euros, cents, total, euroSum, centSum, fileNumber, euro-more, cent-more}
-use Rattle.judge.specs.declared.Breach.{Breach}
+use Rattle.judge.specs.Sums.{euros, cents, euroSum, centSum, fileNumber}
 use Rattle.forwarding.specs.Between.{between}
 use Rattle.forwarding.specs.Forwarded.{notesOf}
 use Rattle.forwarding.specs.Text.{qTexts, tTexts}

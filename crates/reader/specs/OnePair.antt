@@ -1,10 +1,10 @@
 -- With one pair of lists throughout, a reading means what the judge says of the joined bytes.
 use Prim.Native.Nat.{ℕ, _+_, _*_, _-_, _≤_, _<_}
-use mathlib.Core.List.{List, [], _∷_, _++_}
-use mathlib.Core.Path.{_≡_, refl, sym, ap, ap₂, _∙_}
+use mathlib.Core.List.{List, [], _∷_}
+use mathlib.Core.Path.{_≡_, refl, ap, ap₂}
 use mathlib.Core.Bool.{Bool, true, false, cond}
 use native.Mathlib.Omega.{arith}
-use borrow.Author.Tests.{ltb-true, ltb-false, leb-true, eqb-false}
+use borrow.Author.Tests.{ltb-false, leb-true, eqb-false}
 use lib.Dec.{eqb, ltb, leb}
 use lib.ListN.{length, length-append}
 use Rattle.charset.specs.Table.{isPage}
@@ -23,7 +23,7 @@ use Rattle.judge.specs.Verdict.{refused, sound, unless, verdictBy, verdictOf, o
 use Rattle.judge.specs.declared.Breach.{Breach}
 use Rattle.judge.specs.declared.Verdict.{Verdict}
 use Rattle.tally.specs.SoFar.{same-breach, same-so-far}
-use Rattle.reader.specs.Cuts.{Cut, joined, holding, completing, LentWith, readFault, readContent, readBy, readVerdict, readJudged}
+use Rattle.reader.specs.Cuts.{Cut, joined, holding, LentWith, readFault, readContent, readBy, readVerdict, readJudged}
 
 -- the cut that holds a byte came with the pair
 held-with : (t ch : List ℕ) (cuts : List Cut) → LentWith t ch cuts → (place : ℕ) → place < length (joined cuts)

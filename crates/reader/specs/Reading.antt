@@ -1,12 +1,12 @@
 -- A reading: from a new reader, cut by cut. After each cut the reader's state is that of the bytes so far.
-use Prim.Native.Nat.{ℕ, _+_, _≤_, _<_, min}
+use Prim.Native.Nat.{ℕ, _+_, _≤_, min}
 use mathlib.Core.List.{List, [], _∷_, _++_}
 use mathlib.Core.Path.{_≡_, refl, sym, ap, ap₂, subst, _∙_}
-use mathlib.Core.Bool.{Bool, true, _&&_, cond}
+use mathlib.Core.Bool.{true}
 use native.Mathlib.Omega.{arith}
 use borrow.Author.Tests.{lt-ltb}
-use lib.Dec.{ltb, lit≤}
-use lib.ListN.{length, take, drop, length-drop}
+use lib.Dec.{ltb}
+use lib.ListN.{length, take, length-drop}
 use Rattle.laws.specs.Choice.{on, on-eq}
 use Rattle.structure.specs.Slots.{widthAt}
 use Rattle.forwarding.specs.Put.{put, put-length, take-put}

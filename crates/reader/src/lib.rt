@@ -4,7 +4,7 @@ use tally::Tally;
 ghost use mathlib.Core.Path.{_≡_};
 ghost use mathlib.Core.List.{[], _++_};
 ghost use Prim.Native.Nat.{_+_, _-_, _≤_, _<_};
-ghost use lib.ListN.{length, take, drop};
+ghost use lib.ListN.{length, take};
 ghost use Rattle.structure.specs.Slots.{widthAt};
 ghost use Rattle.forwarding.specs.Put.{put};
 ghost use Rattle.tally.specs.Settle.{settleOf, Steady};

@@ -1,5 +1,4 @@
 use borrow.Author.Needs.{needs}
-use native.Mathlib.Omega.{arith}
 use Rattle.reader.specs.Eats.{held-is}
 use Rattle.reader.proofs.hold.Statement.{statement}
 use Rattle.reader.proofs.hold.Tie as tie

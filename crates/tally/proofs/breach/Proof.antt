@@ -2,7 +2,7 @@
 use borrow.Author.Needs.{needs}
 use native.Mathlib.Omega.{arith}
 use Prim.Native.Nat.{_-_, _<_}
-use mathlib.Core.Path.{_≡_, refl, sym, ap₂, _∙_}
+use mathlib.Core.Path.{_≡_, refl, sym, ap₂}
 use Rattle.laws.specs.Choice.{on-ne, off-ne}
 use Rattle.laws.specs.Scan.{first, run, goes, leaves, ends}
 use Rattle.judge.specs.First.{breaks, firstRule, found}

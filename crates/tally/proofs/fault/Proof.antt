@@ -1,5 +1,5 @@
 -- The rule's own function answers, by the kind of record k.
-use mathlib.Core.Path.{sym, _∙_}
+use mathlib.Core.Path.{_∙_}
 use Rattle.laws.specs.Choice.{on-eq, off-eq, on-le, off-le}
 use Rattle.tally.specs.Record.{slotFault, long-q, long-t, long-z}
 use Rattle.tally.proofs.fault.Statement.{statement}

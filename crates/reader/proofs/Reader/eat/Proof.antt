@@ -1,8 +1,8 @@
 use borrow.Author.Needs.{needs}
 use native.Mathlib.Omega.{arith}
 use Prim.Native.Nat.{_-_}
-use mathlib.Core.Path.{_≡_, sym}
-use lib.ListN.{length, take, length-take}
+use mathlib.Core.Path.{_≡_}
+use lib.ListN.{length, length-take}
 use Rattle.tally.specs.Settle.{steady-settle}
 use Rattle.reader.specs.Eats.{width-le, eats-stopped, eats-held, eats-full}
 use Rattle.reader.proofs.Reader.eat.Statement.{statement}

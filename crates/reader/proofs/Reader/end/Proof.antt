@@ -1,5 +1,5 @@
 use borrow.Author.Needs.{needs}
-use mathlib.Core.Path.{refl, ap, _∙_, sym}
+use mathlib.Core.Path.{refl, ap}
 use Rattle.laws.specs.Choice.{on-eq, off-eq}
 use Rattle.reader.specs.declared.Answer.{Answer}
 use Rattle.reader.specs.State.{endedBy, readOf, endOf}

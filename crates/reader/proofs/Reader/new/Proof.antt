@@ -1,5 +1,5 @@
 use borrow.Author.Needs.{needs}
-use Rattle.reader.specs.State.{newOf, new-is}
+use Rattle.reader.specs.State.{new-is}
 use Rattle.reader.proofs.Reader.new.Statement.{statement}
 use Rattle.reader.proofs.Reader.new.Tie as tie
 

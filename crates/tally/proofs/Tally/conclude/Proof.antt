@@ -1,7 +1,7 @@
 use borrow.Author.Needs.{needs}
 use native.Mathlib.Omega.{arith}
 use mathlib.Core.Path.{sym, _∙_}
-use Rattle.tally.specs.Conclude.{EndsIn, ends-in, too-long, has-stopped, ends-broken, ends-whole}
+use Rattle.tally.specs.Conclude.{ends-in, too-long, has-stopped, ends-broken, ends-whole}
 use Rattle.tally.proofs.Tally.conclude.Statement.{statement}
 use Rattle.tally.proofs.Tally.conclude.Tie as tie
 
