@@ -1,5 +1,6 @@
 pub mod First
 pub mod Content
+pub mod Run
 pub mod ByKind
 pub mod Sums
 pub mod Verdict

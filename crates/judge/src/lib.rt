@@ -5,9 +5,11 @@ use records::T;
 use records::TField;
 use structure::Shape;
 ghost use mathlib.Core.Path.{_≡_};
-ghost use Prim.Native.Nat.{_+_, _*_, _≤_, _<_};
+ghost use Prim.Native.Nat.{_+_, _*_, _-_, _≤_, _<_};
 ghost use lib.ListN.{length};
-ghost use Rattle.judge.specs.Content.{faultOf, ruleFrom, ruleEnd, contentOf};
+ghost use Rattle.records.specs.Places.{recordAt};
+ghost use Rattle.judge.specs.Content.{ruleFrom, ruleEnd, contentOf};
+ghost use Rattle.judge.specs.Run.{lengthAt, slotFault, slotIn, runFault, Lies, firstIn};
 ghost use Rattle.judge.specs.Sums.{euros, cents, euroSum, centSum, fileNumber};
 ghost use Rattle.judge.specs.Verdict.{refused, verdictOf, JudgedAs};
 
@@ -31,29 +33,28 @@ pub struct Verdict {
     pub cents: u64,
 }
 
-// What a rule says of record k of a file with n T records.
+// What a rule says of record k, whose bytes are the slot's, in a file with so many payments.
 fn fault(
     page: u32,
-    file: &[u8],
-    n: usize,
-    euros: u64,
     transfer: &[u8],
     cheque: &[u8],
+    key: &[u8],
+    payments: usize,
+    euros: u64,
+    slot: &[u8],
     k: usize,
     rule: usize,
 ) -> usize
-    requires { ⌜ (length (now file) ≡ 512 + 768 * n) × ((1 ≤ n) × ((n ≤ 9999) × (k < n + 2))) ⌝ }
-    ensures { λ r. ⌜ r ≡ faultOf page (now (file .entry)) n euros (now (transfer .entry)) (now (cheque .entry)) k rule ⌝ }
+    requires { ⌜ (length (now slot) ≡ lengthAt payments k) × (length (now key) ≡ 21) ⌝ }
+    ensures { λ r. ⌜ r ≡ slotFault page (now (transfer .entry)) (now (cheque .entry)) (now (key .entry)) payments euros (now (slot .entry)) k rule ⌝ }
 {
     if k == 0 {
-        return rules::q::fault(page, structure::slot(file, 0), rule);
+        return rules::q::fault(page, slot, rule);
     }
-    let slot = structure::slot(file, k);
-    if k <= n {
-        let key = payments::key(structure::slot(file, 1));
+    if k <= payments {
         return payments::fault(page, transfer, cheque, key, slot, rule);
     }
-    rules::z::fault(n as u64, euros, slot, rule)
+    rules::z::fault(payments as u64, euros, slot, rule)
 }
 
 // The rules of record k: from its first up to below its end.
@@ -81,20 +82,47 @@ pub fn rule_end(n: usize, k: usize) -> usize
     43
 }
 
-// The first broken rule ends the judgement there.
-fn content(page: u32, file: &[u8], n: usize, euros: u64, transfer: &[u8], cheque: &[u8]) -> Breach
-    requires { ⌜ (length (now file) ≡ 512 + 768 * n) × ((1 ≤ n) × (n ≤ 9999)) ⌝ }
-    ensures { λ r. ⌜ r ≡ contentOf page (now (file .entry)) n euros (now (transfer .entry)) (now (cheque .entry)) ⌝ }
+// The slot of record k in bytes that stand from place skip of a file on.
+fn slot_in(bytes: &[u8], skip: usize, k: usize) -> &[u8]
+    requires { ⌜ (k ≤ 10000) × (skip ≤ recordAt k) × (recordAt k - skip ≤ length (now bytes)) ⌝ }
+    ensures { λ r. ⌜ now r ≡ slotIn (now (bytes .entry)) skip k ⌝ }
+{
+    let at = records::record_at(k) - skip;
+    let left = bytes.len() - at;
+    let width = structure::width_at(k);
+    if left < width {
+        return &bytes[at..];
+    }
+    let end = at + width;
+    &bytes[at..end]
+}
+
+// The first broken rule of a run of records ends the judgement there.
+pub fn run(
+    page: u32,
+    transfer: &[u8],
+    cheque: &[u8],
+    key: &[u8],
+    payments: usize,
+    euros: u64,
+    bytes: &[u8],
+    skip: usize,
+    from: usize,
+    to: usize,
+) -> Breach
+    requires { ⌜ Lies (now bytes) skip payments from to × (length (now key) ≡ 21) ⌝ }
+    ensures { λ r. ⌜ r ≡ firstIn (runFault page (now (transfer .entry)) (now (cheque .entry)) (now (key .entry)) payments euros (now (bytes .entry)) skip) (ruleFrom payments) (ruleEnd payments) from to ⌝ }
 {
     let mut number = 0;
     let mut rec = 0;
     let mut at = 0;
-    let mut k = 0;
-    'records: while k < n + 2 {
-        let mut rule = rule_from(n, k);
-        let end = rule_end(n, k);
+    let mut k = from;
+    'records: while k < to {
+        let slot = slot_in(bytes, skip, k);
+        let mut rule = rule_from(payments, k);
+        let end = rule_end(payments, k);
         while rule < end {
-            let place = fault(page, file, n, euros, transfer, cheque, k, rule);
+            let place = fault(page, transfer, cheque, key, payments, euros, slot, k, rule);
             if place != 0 {
                 number = rule;
                 rec = k;
@@ -106,6 +134,15 @@ fn content(page: u32, file: &[u8], n: usize, euros: u64, transfer: &[u8], cheque
         k += 1;
     }
     Breach { number, rec, at }
+}
+
+// All records of a file with n T records.
+fn content(page: u32, file: &[u8], n: usize, euros: u64, transfer: &[u8], cheque: &[u8]) -> Breach
+    requires { ⌜ (length (now file) ≡ 512 + 768 * n) × ((1 ≤ n) × (n ≤ 9999)) ⌝ }
+    ensures { λ r. ⌜ r ≡ contentOf page (now (file .entry)) n euros (now (transfer .entry)) (now (cheque .entry)) ⌝ }
+{
+    let key = payments::key(structure::slot(file, 1));
+    run(page, transfer, cheque, key, n, euros, file, 0, 0, n + 2)
 }
 
 // What a payment adds to the sums: whole euros, and cents.

@@ -19,7 +19,8 @@ use Rattle.structure.specs.Walk.{letterOf, faultIn}
 use Rattle.structure.specs.Whole.{WholeSlot, whole, letter-q}
 use Rattle.structure.specs.Fits.{WalksOn, Reached}
 use Rattle.tally.specs.declared.Tally.{Tally}
-use Rattle.tally.specs.Settle.{fresh, stopAt, stopped, withQ, withT, settleOf, Steady, steady-settle, q-width, settled-stop, settled-q, settled-t}
+use Rattle.tally.specs.Record.{q-width}
+use Rattle.tally.specs.Settle.{fresh, stopAt, stopped, withQ, withT, settleOf, Steady, steady-settle, settled-stop, settled-q, settled-t}
 use Rattle.reader.specs.Cuts.{Cut, joined, holding, completing}
 use Rattle.reader.specs.State.{Mid, mid, push, eat}
 use Rattle.reader.specs.Eats.{width-pos}

@@ -25,7 +25,8 @@ use Rattle.forwarding.specs.Fields.{fieldChanges}
 use Rattle.forwarding.specs.Sized.{Sized}
 use Rattle.count.specs.Counting.{Counted, count-first, count-next, count-all}
 use Rattle.tally.specs.declared.Tally.{Tally}
-use Rattle.tally.specs.Record.{slotFault, breachIn, orNext}
+use Rattle.judge.specs.Run.{slotFault}
+use Rattle.tally.specs.Record.{breachIn, orNext}
 use Rattle.tally.specs.Settle.{keyAt}
 use Rattle.tally.specs.SoFar.{breachAt, same-breach, so-far}
 use Rattle.reader.specs.Cuts.{Cut, joined, completing, readFault, readContent}

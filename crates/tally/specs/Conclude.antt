@@ -15,8 +15,7 @@ use Rattle.structure.specs.Whole.{WholeSlot, whole, length-low, length-t, lette
 use Rattle.judge.specs.Verdict.{refused, sound, unless}
 use Rattle.judge.specs.declared.Breach.{Breach}
 use Rattle.judge.specs.declared.Verdict.{Verdict}
-use Rattle.tally.specs.Record.{breachIn, orNext}
-use Rattle.tally.specs.Settle.{q-width}
+use Rattle.tally.specs.Record.{breachIn, orNext, q-width}
 use Rattle.tally.specs.declared.Tally.{Tally}
 
 -- at a whole Z; no rule of Z reads a list

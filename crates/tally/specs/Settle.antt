@@ -166,9 +166,6 @@ pub key-kept : (src dst out slot : List ℕ) → src ≡ keyOf slot → length s
 key-kept src dst out slot e p q r =
     r ∙ rw (drop-of-length-le dst {i = length src} (omega arith), append-nil) (take-all (length src) src (omega arith)) ∙ e
 
-pub q-width : (k : ℕ) → k ≡ 0 → widthAt k ≡ 256
-q-width k z = sym (on-eq {x = 256} 768 z refl)
-
 -- record 10,000 never goes on
 pub below-last : (k : ℕ) (slot : List ℕ) {stop : ℕ} → k ≤ 10000 → stop ≡ stopAt k slot → stop ≡ 0 → k < 10000
 below-last k slot h e z = go (eqb k 10000) refl (sym e ∙ z)

@@ -6,7 +6,8 @@ ghost use mathlib.Core.List.{[]};
 ghost use Prim.Native.Nat.{_-_, _≤_, _<_};
 ghost use lib.ListN.{length};
 ghost use Rattle.structure.specs.Slots.{widthAt};
-ghost use Rattle.tally.specs.Record.{lengthAt, slotFault, breachIn, orNext};
+ghost use Rattle.judge.specs.Run.{lengthAt};
+ghost use Rattle.tally.specs.Record.{breachIn, orNext};
 ghost use Rattle.tally.specs.Settle.{fresh, keyAt, stopAt, withQ, withT, settleOf, isSteady, Steady};
 ghost use Rattle.tally.specs.Conclude.{atZ, concludeOf};
 
@@ -27,31 +28,7 @@ pub struct Tally {
     pub key: [u8; 21],
 }
 
-// What a rule says of record k, whose bytes are the slot's, in a file with so many payments.
-fn fault(
-    page: u32,
-    transfer: &[u8],
-    cheque: &[u8],
-    key: &[u8],
-    payments: usize,
-    euros: u64,
-    slot: &[u8],
-    k: usize,
-    rule: usize,
-) -> usize
-    requires { ⌜ (length (now slot) ≡ lengthAt payments k) × (length (now key) ≡ 21) ⌝ }
-    ensures { λ r. ⌜ r ≡ slotFault page (now (transfer .entry)) (now (cheque .entry)) (now (key .entry)) payments euros (now (slot .entry)) k rule ⌝ }
-{
-    if k == 0 {
-        return rules::q::fault(page, slot, rule);
-    }
-    if k <= payments {
-        return payments::fault(page, transfer, cheque, key, slot, rule);
-    }
-    rules::z::fault(payments as u64, euros, slot, rule)
-}
-
-// The first broken rule of record k, or none.
+// The first broken rule of record k, whose bytes are the slot's, or none.
 fn breach(
     page: u32,
     transfer: &[u8],
@@ -62,27 +39,22 @@ fn breach(
     slot: &[u8],
     k: usize,
 ) -> Breach
-    requires { ⌜ (length (now slot) ≡ lengthAt payments k) × (length (now key) ≡ 21) ⌝ }
+    requires { ⌜ (length (now slot) ≡ lengthAt payments k) × (length (now key) ≡ 21) × (length (now slot) ≤ widthAt k) × (k ≤ 10000) ⌝ }
     ensures { λ r. ⌜ r ≡ breachIn page (now (transfer .entry)) (now (cheque .entry)) (now (key .entry)) payments euros (now (slot .entry)) k ⌝ }
 {
-    let mut rule = judge::rule_from(payments, k);
-    let end = judge::rule_end(payments, k);
-    while rule < end {
-        let at = fault(page, transfer, cheque, key, payments, euros, slot, k, rule);
-        if at != 0 {
-            return Breach {
-                number: rule,
-                rec: k,
-                at,
-            };
-        }
-        rule += 1;
-    }
-    Breach {
-        number: 0,
-        rec: 0,
-        at: 0,
-    }
+    let skip = records::record_at(k);
+    judge::run(
+        page,
+        transfer,
+        cheque,
+        key,
+        payments,
+        euros,
+        slot,
+        skip,
+        k,
+        k + 1,
+    )
 }
 
 // The first fault: that so far, or else record k's, which is Q or a T record.
@@ -95,7 +67,7 @@ fn or_next(
     slot: &[u8],
     k: usize,
 ) -> Breach
-    requires { ⌜ length (now slot) ≡ lengthAt k k ⌝ }
+    requires { ⌜ (length (now slot) ≡ widthAt k) × (k ≤ 10000) ⌝ }
     ensures { λ r. ⌜ r ≡ orNext broken (breachIn page (now (transfer .entry)) (now (cheque .entry)) key k 0 (now (slot .entry)) k) ⌝ }
 {
     let number = broken.number;
@@ -107,7 +79,7 @@ fn or_next(
 
 // The same at Z, which is record k. No rule of Z reads a list.
 fn or_z(broken: Breach, page: u32, key: [u8; 21], euros: u64, z: &[u8], k: usize) -> Breach
-    requires { ⌜ (length (now z) ≡ 256) × (1 ≤ k) ⌝ }
+    requires { ⌜ (length (now z) ≡ 256) × (1 ≤ k) × (k ≤ 10000) ⌝ }
     ensures { λ r. ⌜ r ≡ orNext broken (breachIn page [] [] key (k - 1) euros (now (z .entry)) k) ⌝ }
 {
     let number = broken.number;
@@ -226,7 +198,7 @@ impl Tally {
 
     // The answer where the file ends in a whole Z.
     fn at_z(self, page: u32, z: &[u8]) -> Verdict
-        requires { ⌜ (length (now z) ≡ 256) × (1 ≤ self .next) ⌝ }
+        requires { ⌜ (length (now z) ≡ 256) × (1 ≤ self .next) × (self .next ≤ 10000) ⌝ }
         ensures { λ r. ⌜ r ≡ atZ page self (now (z .entry)) ⌝ }
     {
         let k = self.next;
@@ -249,7 +221,7 @@ impl Tally {
 
     // The answer where the file ends, after so many bytes, with what is left in the slot.
     pub fn conclude(self, page: u32, bytes: usize, left: &[u8]) -> Verdict
-        requires { ⌜ length (now left) < widthAt (self .next) ⌝ }
+        requires { ⌜ (length (now left) < widthAt (self .next)) × Steady self ⌝ }
         ensures { λ r. ⌜ r ≡ concludeOf page self bytes (now (left .entry)) ⌝ }
     {
         if 7679744 < bytes {

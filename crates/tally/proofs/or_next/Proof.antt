@@ -1,6 +1,8 @@
 use borrow.Author.Needs.{needs}
-use mathlib.Core.Path.{refl}
+use native.Mathlib.Omega.{arith}
+use mathlib.Core.Path.{refl, _∙_}
 use Rattle.laws.specs.Choice.{on-eq, off-eq}
+use Rattle.tally.specs.Record.{long-is}
 use Rattle.tally.proofs.or_next.Statement.{statement}
 use Rattle.tally.proofs.or_next.Tie as tie
 
@@ -10,5 +12,5 @@ or-next-spec =
     (tie.spec
     (λ c. off-eq _ (c .if1 .taken) refl)
     (λ c. search needs)
-    (λ c κs. search needs)
+    (λ c κs. (c .before .before .before .before .before .pre .0 ∙ long-is (c .before .before .before .before .before .args .k), search needs, omega (arith, c .before .before .before .before .before .pre .0), c .before .before .before .before .before .pre .1))
     (λ c. on-eq _ (c .before .before .if1 .left) (c .breach .ensures)))

@@ -27,5 +27,5 @@ judged-spec =
     (λ c. on-not _ (c .before .before .before .before .before .is-page .ensures) (c .before .before .before .before .if1 .left) (off-not _ (c .before .before .in-order .ensures) (c .before .if2 .taken) (c .refusal2 .ensures)))
     (λ c. omega (arith, long c, order c .fits))
     (λ c. sym (pending-long (c .before .before .before .before .before .before .before .args .self) (long (c .before)) (order (c .before) .fits)))
-    (λ c κs. omega (arith, order (c .before) .short, pending-long (c .before .before .before .before .before .before .before .args .self) (long (c .before)) (order (c .before) .fits)))
+    (λ c κs. (omega (arith, order (c .before) .short, pending-long (c .before .before .before .before .before .before .before .args .self) (long (c .before)) (order (c .before) .fits)), order (c .before) .fine))
     (λ c. on-not _ (c .before .before .before .before .before .before .before .is-page .ensures) (c .before .before .before .before .before .before .if1 .left) (on-not _ (c .before .before .before .before .in-order .ensures) (c .before .before .before .if2 .left) (c .conclude .ensures))))

@@ -8,8 +8,8 @@ use Rattle.tally.proofs.Tally.conclude.Tie as tie
 at-z-requires : tie.Need-at-z-requires
 at-z-requires c κs =
     let start = c .before .before .before .before .before in
-    let h = ends-in (start .args .self .next) (start .args .left .now) (sym (c .before .fault-in .ensures) ∙ c .if3 .left) (start .pre) in
-    (h .long, omega (arith, h .later))
+    let h = ends-in (start .args .self .next) (start .args .left .now) (sym (c .before .fault-in .ensures) ∙ c .if3 .left) (start .pre .0) in
+    (h .long, omega (arith, h .later), start .pre .1 .few)
 
 pub conclude-spec : {M : Type 1} → statement M
 conclude-spec =

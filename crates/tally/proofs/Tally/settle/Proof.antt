@@ -2,7 +2,8 @@ use borrow.Author.Needs.{needs}
 use native.Mathlib.Omega.{arith}
 use mathlib.Core.Path.{_∙_}
 use Rattle.structure.specs.Slots.{later-width}
-use Rattle.tally.specs.Settle.{q-width, below-last, settled-stop, settled-q, settled-t}
+use Rattle.tally.specs.Record.{q-width}
+use Rattle.tally.specs.Settle.{below-last, settled-stop, settled-q, settled-t}
 use Rattle.tally.proofs.Tally.settle.Statement.{statement}
 use Rattle.tally.proofs.Tally.settle.Tie as tie
 

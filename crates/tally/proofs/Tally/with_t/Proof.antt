@@ -2,7 +2,7 @@ use borrow.Author.Needs.{needs}
 use native.Mathlib.Omega.{arith}
 use mathlib.Core.Path.{_≡_, sym, _∙_}
 use Rattle.judge.specs.Sums.{euros-lt, cents-lt}
-use Rattle.tally.specs.Record.{long-t}
+use Rattle.structure.specs.Slots.{later-width}
 use Rattle.tally.specs.Settle.{t-few, told-t}
 use Rattle.tally.proofs.Tally.with_t.Statement.{statement}
 use Rattle.tally.proofs.Tally.with_t.Tie as tie
@@ -12,7 +12,7 @@ with-t-spec =
     tie.close
     (tie.spec
     (λ c κs. search needs)
-    (λ c κs. c .before .before .before .before .before .before .pre .0 ∙ sym (long-t (c .before .before .before .before .before .before .args .self .next) (c .before .before .before .before .before .before .args .self .next) (λ (z : c .before .before .before .before .before .before .args .self .next ≡ 0). omega (arith, c .before .before .before .before .before .before .pre .2)) (omega arith)))
+    (λ c κs. (c .before .before .before .before .before .before .pre .0 ∙ sym (later-width (c .before .before .before .before .before .before .args .self .next) (c .before .before .before .before .before .before .pre .2)), omega (arith, c .before .before .before .before .before .before .pre .3)))
     (λ c κs. search needs)
     (λ c. omega (arith, c .before .before .before .before .before .before .before .before .before .pre .1 .few, c .before .before .before .before .before .before .before .before .before .pre .1 .euros-fit, c .before .euros-of .ensures, euros-lt (c .before .before .before .before .before .before .before .before .before .args .t .now)))
     (λ c κs. search needs)
