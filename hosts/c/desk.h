@@ -98,6 +98,7 @@ desk_judgement desk_judge_full(uint32_t page, const uint8_t *file, size_t n,
        desk_reader reader = desk_reader_new(DESK_ISO_8859_1);
        while ((n = fread(cut, 1, sizeof cut, input)) > 0)
            reader = desk_reader_feed(reader, cut, n, transfer, nt, cheque, nc);
+       if (ferror(input)) ..;       a read that failed is not the end of the file
        desk_answer answer = desk_reader_end(reader, taken, taken_n).answer;
    A call changes no reader in place: it gives back the changed one, with which the host goes on.
    The page is named at the start, the country lists are lent with each cut, and the taken numbers at the end. A payment is
@@ -105,8 +106,8 @@ desk_judgement desk_judge_full(uint32_t page, const uint8_t *file, size_t n,
    desk_judge_full over all the bytes; changes is how many characters desk_prepare would change, and 0 where the file is
    refused. So without a byte it is 2 at record 0. Before the end there is no answer, for a later byte may change it.
    The first end decides. The reader that it gave back answers the same when it is asked again, whatever numbers are lent,
-   and cuts that are handed to it change nothing. A reader that comes from no call, as one of zeros or of chance bytes, does
-   no harm, but its answer says nothing of any file. */
+   and cuts that are handed to it change nothing. A reader of zeros is a new one of page 0. One of
+   chance bytes does no harm, but its answer says nothing of any file. Readers are not to be compared byte by byte. */
 desk_reader desk_reader_new(uint32_t page);
 desk_reader desk_reader_feed(desk_reader reader, const uint8_t *cut, size_t n,
                              const uint8_t *transfer, size_t nt, const uint8_t *cheque, size_t nc);

@@ -466,11 +466,11 @@ mod c {
         pub cents: u64,
     }
 
-    /// A `desk_reader`. What is in it is the desk's own.
+    /// A `desk_reader`. What is in it is the desk's own; bytes between its fields may have no value.
     #[repr(C)]
     #[derive(Clone, Copy, Debug)]
     pub struct Reader {
-        own: [u64; 118],
+        own: [std::mem::MaybeUninit<u64>; 118],
     }
 
     /// A `desk_read`, whose answer is the judge's, and the changes behind it.

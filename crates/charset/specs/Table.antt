@@ -27,7 +27,7 @@ abbrev pub isPage : ℕ → Bool
 isPage page = eqb page 0 || eqb page 1
 
 -- the four German characters at their codes on page 0 and on page 1, and what they become; any other number has page 1's
--- rows, and no call asks for them
+-- rows, on which no answer depends: a reader of such a page asks for them, and its end is 7
 abbrev pub german : ℕ → List (ℕ × ℕ)
 german zero = (0x5B, code "A") ∷ (0x5C, code "O") ∷ (0x5D, code "U") ∷ (0x7E, code "S") ∷ []
 german (suc _) = (0xC4, code "A") ∷ (0xD6, code "O") ∷ (0xDC, code "U") ∷ (0xDF, code "S") ∷ []

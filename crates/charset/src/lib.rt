@@ -47,7 +47,7 @@ fn iso_8859_1(b: u8) -> u8
     }
 }
 
-// What a character becomes. Page 0 is DIN 66003, every other ISO 8859-1; the calls ask for 0 and 1 alone.
+// What a character becomes. Page 0 is DIN 66003, every other ISO 8859-1; no answer depends on any number but 0 and 1.
 pub fn replaced(page: u32, b: u8) -> u8
     ensures { λ r. ⌜ r ≡ rep page b ⌝ }
 {

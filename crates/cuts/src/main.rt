@@ -67,6 +67,7 @@ fn places_of_a_cut(file: &[u8]) {
     cut_around(file, 255);
     cut_around(file, 1023);
     cut_around(file, 1791);
+    cut_at(b"one list,", file, 2047, &LIST);
     cut_at(b"one list,", file, 2048, &LIST);
     one_byte_at_a_time(file);
     cut_at(b"another list in the second,", file, 1023, &OTHER);

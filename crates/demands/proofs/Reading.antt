@@ -8,7 +8,7 @@ use native.Mathlib.Omega.{arith}
 use borrow.Author.Tests.{eqb-false}
 use lib.Dec.{eqb, leb}
 use lib.ListN.{length}
-use Rattle.laws.specs.Choice.{on-eq, off-eq}
+use Rattle.laws.specs.Choice.{on-eq, off-eq, on-lt}
 use Rattle.charset.specs.Table.{isPage}
 use Rattle.structure.specs.Walk.{structureOf}
 use Rattle.structure.specs.declared.Shape.{Shape}
@@ -28,8 +28,8 @@ use Rattle.reader.specs.Reading.{fed-all, fedAll}
 use Rattle.reader.specs.Answers.{end-is}
 use Rattle.reader.specs.OnePair.{judged-with}
 use Rattle.demands.specs.Demand1.{FileRule, ContentRule, ReadNumbers}
-use Rattle.demands.specs.Reading.{Reading, AsJudged, ReadAnswers, ReadsAsJudged, CutsAlike, EndsOnce, EndIsLast, ReadPage}
-use Rattle.demands.proofs.Pages.{one-answer, never-7}
+use Rattle.demands.specs.Reading.{Reading, AsJudged, ReadAnswers, ReadsAsJudged, CutsAlike, EndsOnce, EndIsLast, ReadPage, ReadTooLong}
+use Rattle.demands.proofs.Pages.{is-page, one-answer, never-7}
 use Rattle.demands.proofs.Demand1.{told, judged-7, on-any-page}
 use Rattle.demands.proofs.Forwarding.{listed, listed-one}
 
@@ -154,3 +154,18 @@ read-page page cuts taken read r =
       never-7 page number x (refused 7 0 0) (read .answer .verdict) given (judged-7 v (joined cuts) taken (read-told page cuts)),
       λ n. e ∙ ap (λ (w : Verdict). answered w (cond (eqb (w .number) 0) (length (notesOf page (joined cuts))) 0)) (sym given ∙ one-answer page number x (refused 7 0 0) (read .answer .verdict) given n),
     )
+
+-- the answer of a verdict, on a page that there is
+abbrev answersTo : ℕ → List ℕ → List ℕ → Verdict → Answer
+answersTo page file taken v =
+    let w = orTaken v file taken in
+    answered w (cond (eqb (w .number) 0) (length (notesOf page file)) 0)
+
+pub read-too-long : ReadTooLong
+unfolding readingOf readJudged readVerdict structureOf
+read-too-long page cuts taken read r there long =
+    let file = joined cuts in
+    let v : readVerdict page cuts ≡ refused 1 0 0 = ap (λ (s : Shape). readBy s page cuts) (sym (on-lt _ long refl)) in
+    read-answers page cuts taken read r
+    ∙ ap (λ (b : Bool). let w = cond b (orTaken (readVerdict page cuts) file taken) (refused 7 0 0) in answered w (cond (eqb (w .number) 0) (length (notesOf page file)) 0)) (is-page page there)
+    ∙ ap (answersTo page file taken) v

@@ -2,7 +2,7 @@
 -- changed with each cut. The code page is named once, at the start. The country lists are lent with each cut [..]; the taken
 -- list at the end." What the answer is, is said by the cuts alone in reader/Cuts; that a reader gives it, whatever the cuts,
 -- is said here.
-use Prim.Native.Nat.{ℕ}
+use Prim.Native.Nat.{ℕ, _<_}
 use mathlib.Core.Path.{_≡_}
 use mathlib.Core.List.{List}
 use lib.ListN.{length}
@@ -58,8 +58,14 @@ EndIsLast =
     (r : Reader) (taken cut transfer cheque : List ℕ) (read : Read) (next : Reader) → EndedAs r taken read
     → FedAs (read .reader) cut transfer cheque next → next ≡ read .reader
 
--- "rule 1 outranks all but 7": never 7 on a page that there is, and 7 on every other, whatever the cuts
+-- 7 comes before everything: never on a page that there is, and on every other whatever the cuts
 abbrev pub ReadPage : Type 0
 ReadPage =
     (page : ℕ) (cuts : List Cut) (taken : List ℕ) (read : Read) → Reading page cuts taken read
     → (Page page → read .answer .verdict .number ≡ 7 → ⊥) × ((Page page → ⊥) → read .answer ≡ record { verdict = refused 7 0 0; changes = 0 })
+
+-- "rule 1 outranks all but 7": whatever the cuts and their lists
+abbrev pub ReadTooLong : Type 0
+ReadTooLong =
+    (page : ℕ) (cuts : List Cut) (taken : List ℕ) (read : Read) → Reading page cuts taken read → Page page
+    → 7679744 < length (joined cuts) → read .answer ≡ record { verdict = refused 1 0 0; changes = 0 }

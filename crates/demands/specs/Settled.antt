@@ -2,6 +2,7 @@
 -- leaves one possible answer and one possible content of all memory it was lent. That any two permitted outcomes
 -- coincide is proved". Over the predicates that the calls' `ensures` state, and on any page, also one that does not exist.
 -- `desk_judge_full`, `desk_prepare`, `desk_restore` and the three calls of a reader promise the same as the calls below them.
+-- `ToldAs` is what the program's steps come to (Program `SaysOfInput`).
 use Prim.Native.Nat.{ℕ}
 use mathlib.Core.Path.{_≡_}
 use mathlib.Core.List.{List}

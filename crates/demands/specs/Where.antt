@@ -81,7 +81,7 @@ pointsToT14a rec = not (allOf Digit (inT T14a rec)) || (allOf Digit (inT T14a re
 abbrev pub amountAt : List ℕ → ℕ
 amountAt rec = cond (pointsToT14a rec) (tPlace T14a .start) (tPlace T14b .start)
 
--- where the answer to a file points: "Rules 1 to 6, 50 and a sound file give 0" (6 is withdrawn, 50 the judge's alone)
+-- where the answer to a file points: "Rules 1 to 6, 50 and a sound file give 0" (6 is withdrawn, 50 is no rule of a file)
 pub record Points (page : ℕ) (transfer cheque file : List ℕ) (number rec at : ℕ) : Type 0 where
   pub nowhere : number ≤ 5 → at ≡ 0
   pub lowest : 10 ≤ number → (number ≡ 33 → ⊥) → Lowest (fieldsOf page transfer cheque file rec number) at

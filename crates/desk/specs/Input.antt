@@ -1,4 +1,5 @@
--- What is known of the program's input: the reader at its end was handed pieces, one after the other, and nothing else.
+-- What is known of the program's input: the reader at its end was handed pieces, one after the other, and nothing else. What
+-- a read brings is not said: the kit's contract of it is silent there.
 use Prim.Native.Nat.{ℕ}
 use mathlib.Core.Path.{refl}
 use mathlib.Core.List.{List, [], _∷_, _++_}
@@ -8,24 +9,20 @@ use Rattle.reader.specs.Reading.{fed-more, lent-more}
 use Rattle.report.specs.Annexes.{annexI, annexII}
 use Rattle.report.specs.Report.{StartedAs, ReadOnAs, HasRead}
 
--- one piece more
-abbrev pub Fed : Reader → Reader → Type 0
-Fed r next = (piece : List ℕ) × ReadOnAs r piece next
-
 abbrev pub Reads : Reader → Type 0
 Reads r = (pieces : List Cut) × HasRead pieces r
 
 pub none-read : (r : Reader) → StartedAs r → Reads r
 none-read r s = ([], record { first = r; started = s; lists = tt; read = refl })
 
-pub one-more : (r next : Reader) → Reads r → Fed r next → Reads next
-one-more r next (pieces, h) fed =
-    let cut : Cut = record { bytes = fed .0; transfer = annexII; cheque = annexI } in (
+pub one-more : (r next : Reader) (piece : List ℕ) → Reads r → ReadOnAs r piece next → Reads next
+one-more r next piece (pieces, h) fed =
+    let cut : Cut = record { bytes = piece; transfer = annexII; cheque = annexI } in (
       pieces ++ (cut ∷ []),
       record {
         first = h .first;
         started = h .started;
         lists = lent-more annexII annexI pieces cut (h .lists) (refl, refl);
-        read = fed-more (h .first) pieces r cut next (h .read) (fed .1);
+        read = fed-more (h .first) pieces r cut next (h .read) fed;
       },
     )

@@ -5,7 +5,9 @@ use reader::Reader;
 use report::Report;
 ghost use mathlib.Core.Path.{_≡_};
 ghost use Prim.Native.Nat.{_-_};
-ghost use Rattle.desk.specs.Input.{Fed, Reads};
+ghost use lib.ListN.{take};
+ghost use Rattle.report.specs.Report.{ReadOnAs};
+ghost use Rattle.desk.specs.Input.{Reads};
 
 // A reader after a read, how many bytes that brought, and whether it answered an error.
 struct Piece {
@@ -22,7 +24,7 @@ struct Input {
 
 // One read, by way of the room.
 fn read_piece(reader: Reader, room: &mut [u8]) -> Piece
-    ensures { λ r. ⌜ Fed reader (r .reader) ⌝ }
+    ensures { λ r. ⌜ ReadOnAs reader (take (r .count) (now (room .exit))) (r .reader) ⌝ }
 {
     let got = libc::read(STDIN_FILENO, room);
     let count = io::count(got, room);

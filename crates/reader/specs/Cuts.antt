@@ -38,7 +38,8 @@ abbrev pub holding : List Cut → ℕ → Cut
 holding [] place = record { bytes = []; transfer = []; cheque = [] }
 holding (cut ∷ cuts) place = cond (ltb place (length (cut .bytes))) cut (holding cuts (place - length (cut .bytes)))
 
--- "the cut that completes it": the one that holds the last byte of record k, which stands before record k + 1
+-- "the cut that completes it": the one that holds the last byte of Q or of T record k, which stands before record k + 1. Z is
+-- shorter than its slot, so of Z this is past the end; no rule of Z reads a list
 abbrev pub completing : List Cut → ℕ → Cut
 completing cuts k = holding cuts (recordAt (k + 1) - 1)
 

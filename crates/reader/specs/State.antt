@@ -84,11 +84,11 @@ withBytes r bytes =
       held = r .held;
     }
 
--- a state that a reading can lead to: the sums are of its records, and the unfinished record does not fill its slot
+-- what every reading keeps: the sums are of its records, and the unfinished record does not fill its slot
 abbrev pub inOrder : Tally → ℕ → Bool
 inOrder tally have = isSteady tally && ltb have (widthAt (tally .next))
 
--- a cut changes nothing after the end, nor in a state that no reading leads to
+-- a cut changes nothing after the end, nor in a state that is not in order
 unfoldable pub fedOf : Reader → List ℕ → List ℕ → List ℕ → Reader
 fedOf r cut transfer cheque =
     cond (eqb (r .ended) 0)

@@ -123,7 +123,7 @@ fn whole_records(page: u32, first: Tally, cut: &[u8], transfer: &[u8], cheque: &
     Along { tally, at }
 }
 
-// A state that a reading can lead to.
+// What every reading keeps; a state that lacks it comes from no call.
 fn in_order(tally: Tally, have: usize) -> bool
     ensures { λ r. ⌜ r ≡ inOrder tally have ⌝ }
 {

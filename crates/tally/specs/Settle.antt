@@ -32,7 +32,8 @@ fresh =
 abbrev pub keyAt : ℕ → List ℕ → List ℕ → List ℕ
 keyAt k key slot = cond (eqb k 1) (keyOf slot) key
 
--- what the walk refuses at a slot that is full, or 0; a file with a whole record 10,000 has more than 7,679,744 bytes
+-- what the walk refuses at a slot that is full, or 0; where record 10,000 fills its slot of 768 bytes, the file has more than
+-- 7,679,744
 abbrev pub stopAt : ℕ → List ℕ → ℕ
 stopAt k slot = cond (eqb k 10000) 1 (faultIn k slot)
 

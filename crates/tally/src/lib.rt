@@ -104,7 +104,7 @@ fn key_at(k: usize, key: [u8; 21], slot: &[u8]) -> [u8; 21]
     first
 }
 
-// What the walk refuses at a slot that is full, or 0. A file with a whole record 10,000 is too long.
+// What the walk refuses at a slot that is full, or 0. A file in which record 10,000 fills its slot is too long.
 fn stop_at(k: usize, slot: &[u8]) -> usize
     ensures { λ r. ⌜ r ≡ stopAt k (now (slot .entry)) ⌝ }
 {
