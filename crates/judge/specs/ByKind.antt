@@ -1,11 +1,9 @@
 -- What a rule says of record k, by the kind of record: for a Q, a T and a Z whose bytes were found.
-use Prim.Native.Nat.{ℕ, _+_, _*_, _≤_, _<_}
-use mathlib.Core.Path.{_≡_, ap, ap₂, subst, _∙_}
+use Prim.Native.Nat.{ℕ, _≤_, _<_}
+use mathlib.Core.Path.{_≡_, ap, ap₂, _∙_}
 use mathlib.Core.List.{List}
-use native.Mathlib.Omega.{arith}
-use lib.ListN.{length}
 use Rattle.laws.specs.Choice.{on-eq, off-eq, on-le, off-le}
-use Rattle.structure.specs.Slots.{slotAt, z-long}
+use Rattle.structure.specs.Slots.{slotAt}
 use Rattle.rules.specs.Faults.{qFault, zFault}
 use Rattle.payments.specs.Rules.{keyOf}
 use Rattle.payments.specs.Faults.{tFault}
@@ -28,10 +26,3 @@ module _ (page : ℕ) (file : List ℕ) (n euros : ℕ) (transfer cheque : List 
       → r ≡ faultOf page file n euros transfer cheque k rule
   unfolding faultOf
   of-z z h s e = off-eq _ z (off-le _ h (e ∙ ap (λ (rec : List ℕ). zFault n euros rec rule) s))
-
--- the slot of Z
-pub z-slot : (file : List ℕ) (n k : ℕ) {rec : List ℕ} → length file ≡ 512 + 768 * n → n < k → k < n + 2 → rec ≡ slotAt file k
-    → length rec ≡ 256
-z-slot file n k l h m s =
-    let e : n + 1 ≡ k = omega arith in
-    ap length s ∙ subst (λ (j : ℕ). length (slotAt file j) ≡ 256) e (z-long file n l)

@@ -14,7 +14,7 @@ use Rattle.records.specs.Places.{recordAt}
 use Rattle.rules.specs.Faults.{qFault, zFault}
 use Rattle.payments.specs.Rules.{keyOf}
 use Rattle.payments.specs.Faults.{tFault}
-use Rattle.structure.specs.Slots.{widthAt, slotAt, place-is, q-long, t-long, z-long, place-in}
+use Rattle.structure.specs.Slots.{widthAt, slotAt, q-long, t-long, z-long, place-in}
 use Rattle.judge.specs.First.{faulty, toldAt, none}
 use Rattle.judge.specs.Content.{faultOf, ruleFrom, ruleEnd, contentOf}
 use Rattle.judge.specs.declared.Breach.{Breach}

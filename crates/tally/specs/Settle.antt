@@ -13,7 +13,6 @@ use Rattle.records.specs.Places.{part}
 use Rattle.records.specs.Inside.{part-le}
 use Rattle.records.specs.declared.Span.{Span}
 use Rattle.payments.specs.Rules.{keyOf}
-use Rattle.structure.specs.Slots.{widthAt}
 use Rattle.structure.specs.Walk.{faultIn}
 use Rattle.judge.specs.First.{none}
 use Rattle.judge.specs.declared.Breach.{Breach}

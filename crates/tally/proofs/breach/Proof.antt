@@ -1,5 +1,5 @@
 use borrow.Author.Needs.{needs}
-use mathlib.Core.Path.{sym, _∙_}
+use mathlib.Core.Path.{_∙_}
 use Rattle.judge.specs.Run.{one-lies}
 use Rattle.tally.specs.Record.{of-run}
 use Rattle.tally.proofs.breach.Statement.{statement}

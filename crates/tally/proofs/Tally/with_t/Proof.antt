@@ -1,6 +1,6 @@
 use borrow.Author.Needs.{needs}
 use native.Mathlib.Omega.{arith}
-use mathlib.Core.Path.{_≡_, sym, _∙_}
+use mathlib.Core.Path.{sym, _∙_}
 use Rattle.judge.specs.Sums.{euros-lt, cents-lt}
 use Rattle.structure.specs.Slots.{later-width}
 use Rattle.tally.specs.Settle.{t-few, told-t}
