@@ -32,6 +32,7 @@ long-t payments k z h = sym (off-eq 256 z (on-le {x = 768} 256 h refl))
 pub long-z : (payments k : ℕ) → (k ≡ 0 → ⊥) → payments < k → lengthAt payments k ≡ 256
 long-z payments k z h = sym (off-eq 256 z (off-le {y = 256} 768 h refl))
 
+-- what a rule says of record k, by its bytes: `faultOf` of Content with the record and the key handed in
 unfoldable pub slotFault : ℕ → List ℕ → List ℕ → List ℕ → ℕ → ℕ → List ℕ → ℕ → ℕ → ℕ
 slotFault page transfer cheque key payments euros slot k rule =
     cond (eqb k 0) (qFault page slot rule)
