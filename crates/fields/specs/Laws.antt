@@ -1,15 +1,16 @@
 -- The tests and the value of a list as loops carry them along, and the bound of a value.
-use Prim.Native.Nat.{ℕ, suc, _+_, _*_, _^_, _-_, _<_, _≤_}
+use Prim.Native.Nat.{ℕ, zero, suc, _+_, _*_, _^_, _-_, _<_, _≤_}
 use Prim.Native.Char.{code}
 use mathlib.Core.Path.{_≡_, refl, sym, ap, _∙_}
 use mathlib.Core.Bool.{Bool, true, false, _&&_, _||_, cond, and-true, or-false, and-assoc, or-assoc, and-false, or-true, false≢true}
-use mathlib.Core.List.{List, [], _∷_}
+use mathlib.Core.List.{List, [], _∷_, _++_}
 use native.Mathlib.Nat.{pow-suc, pow-le-pow-right}
 use native.Mathlib.Numerals.{add-one}
 use native.Mathlib.Omega.{arith}
-use borrow.Author.Tests.{leb-true, eqb-true}
+use borrow.Author.Tests.{leb-true, eqb-true, eqb-false, eq-eqb, ne-eqb}
 use lib.Dec.{eqb, leb, lit<}
-use lib.ListN.{length, drop, getD, length-drop}
+use lib.Seq.{drop-drop}
+use lib.ListN.{length, take, drop, getD, length-drop}
 use Rattle.laws.specs.Ascii.{ascii}
 use Rattle.laws.specs.Steps.{fold, next, next-two}
 use Rattle.fields.specs.Class.{member, every, allOf, same}
@@ -67,6 +68,35 @@ lone (x ∷ (y ∷ s)) h = absurd (omega arith)
 
 pub countries-over : (s : List ℕ) (i : ℕ) → length s - i ≤ 1 → countries (drop i s) ≡ []
 countries-over s i h = lone (drop i s) (simp length-drop h)
+
+-- a list's countries are those of its first n bytes and those behind them: so for n = 0, and for two bytes more
+abbrev Splits : ℕ → Type 0
+Splits n = (s : List ℕ) → countries s ≡ countries (take n s) ++ countries (drop n s)
+
+two-more : (n : ℕ) → Splits n → Splits (suc (suc n))
+two-more n h [] = refl
+two-more n h (x ∷ []) = refl
+two-more n h (x ∷ (y ∷ s)) = ap (λ (l : List (ℕ × ℕ)). (x, y) ∷ l) (h s)
+
+-- a list's countries in fours, whatever its length: from four k on they are those of this four and those behind it
+pub countries-fours : (s : List ℕ) (k : ℕ)
+    → countries (drop (8 * k) s) ≡ countries (take 8 (drop (8 * k) s)) ++ countries (drop (8 * (k + 1)) s)
+countries-fours s k =
+    let e : 8 * (k + 1) ≡ 8 * k + 8 = omega arith in
+    rw (e, ← drop-drop 8 (8 * k) s) (two-more 6 (two-more 4 (two-more 2 (two-more 0 (λ t. refl)))) (drop (8 * k) s))
+
+pub some-append : {A : Type 0} (test : A → Bool) (s t : List A) → some test (s ++ t) ≡ some test s || some test t
+some-append test [] t = refl
+some-append test (x ∷ s) t = ap (λ (u : Bool). test x || u) (some-append test s t) ∙ sym (or-assoc (test x) (some test s) (some test t))
+
+-- two pairs of bytes as numbers
+pub pairs-same : (x y a b : ℕ) → x < 256 → a < 256 → eqb (y * 256 + x) (b * 256 + a) ≡ eqb x a && eqb y b
+pairs-same x y a b h k = go (eqb x a) (eqb y b) refl refl
+  where
+    go : (p q : Bool) → eqb x a ≡ p → eqb y b ≡ q → eqb (y * 256 + x) (b * 256 + a) ≡ p && q
+    go true true e f = eq-eqb (y * 256 + x) (b * 256 + a) (omega (arith, eqb-true x a e, eqb-true y b f))
+    go true false e f = ne-eqb (y * 256 + x) (b * 256 + a) (λ z. eqb-false y b f (omega arith))
+    go false q e f = ne-eqb (y * 256 + x) (b * 256 + a) (λ z. eqb-false x a e (omega arith))
 
 -- lists of different lengths are not the same
 pub unlike : (s t : List ℕ) → (length s ≡ length t → ⊥) → same s t ≡ false
