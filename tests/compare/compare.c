@@ -42,6 +42,7 @@ static void fixed_part(void)
     each_length();
     each_amount();
     near_misses();
+    each_country_list();
     on_each_page();
     long_arrivals();
     sweep();
@@ -92,6 +93,7 @@ static void random_case(void)
         random_rule_alone();
         random_pair_of_rules();
         random_near_miss();
+        random_country_list();
         random_reading();
         return;
     }

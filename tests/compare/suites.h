@@ -56,7 +56,11 @@ void random_taken_numbers(bool sound);
 void random_parts(void);
 void spoil_structure(void);                         /* of the draft; what is then due is not known */
 
-/* sweep.c: what people send by mistake; every byte at every place; every date, wrong totals, long lists; and every pair of
+/* countries.c: request A4, the search of the country lists. */
+void each_country_list(void);
+void random_country_list(void);                     /* it leaves the annexes in use */
+
+/* sweep.c: what people send by mistake; every byte at every place; every date, wrong totals; and every pair of
    characters in the short fields, numbers of payments. Of these the first two read text. */
 void each_mistake(void);
 void each_byte(void);

@@ -1,6 +1,6 @@
 /* Looks everywhere: every byte value at every place, every date, every pair of characters in the short fields, values that
-   people send by mistake, totals that a narrower number would take for right, every number of payments, long lists. What is
-   due is worked out for each from the paper. */
+   people send by mistake, totals that a narrower number would take for right, every number of payments. What is due is
+   worked out for each from the paper. */
 #include <string.h>
 
 #include "plans.h"
@@ -447,46 +447,6 @@ static void each_number_of_payments(void)
         judge_some_payments(edges[i]);
 }
 
-/* ---- Long country lists ----------------------------------------------------------------------- */
-
-/* Pairs of bytes in their order, the first n of them; the wanted one moved to a place, or taken out. */
-static void lists_without(uint8_t *list, size_t n, const char *wanted, size_t place)
-{
-    for (size_t i = 0; i < n; i++) {
-        list[2 * i] = (uint8_t)(i / 256);
-        list[2 * i + 1] = (uint8_t)i;
-        if (memcmp(list + 2 * i, wanted, 2) == 0)
-            list[2 * i] ^= 0x80;
-        if (i == place)
-            memcpy(list + 2 * i, wanted, 2);
-    }
-}
-
-static void judge_listed(const uint8_t *transfer, size_t nt, const uint8_t *cheque, size_t nc, unsigned rule, size_t record)
-{
-    use_lists(transfer, nt, cheque, nc);
-    judge_draft(broken_at(rule, record, 0));
-}
-
-static void each_long_list(void)
-{
-    static uint8_t list[131073];
-    static const size_t counts[] = {1, 2, 3, 4, 5, 157, 600, 601, 602, 1023, 1024, 1025, 4097, 32768, 65535, 65536};
-    one_transfer_one_cheque(CODE_AND_BANK);
-    for (size_t i = 0; i < sizeof counts / sizeof counts[0]; i++) {
-        size_t n = counts[i];
-        const size_t places[] = {0, 1, n / 2, n - 2, n - 1, n};
-        for (size_t k = 0; k < 6; k++) {
-            bool there = places[k] < n;
-            lists_without(list, n, "US", places[k]);
-            memcpy(list + 2 * n, "U", 1);               /* a lone last byte, now and then */
-            judge_listed(list, 2 * n + k % 2, (const uint8_t *)annex_i, ANNEX_I_BYTES, there ? 0 : 26, 1);
-            judge_listed((const uint8_t *)annex_ii, ANNEX_II_BYTES, list, 2 * n + k % 2, there ? 0 : 28, 2);
-        }
-    }
-    use_annexes();
-}
-
 void random_near_miss(void)
 {
     for (int k = 0; k < 8; k++)
@@ -504,7 +464,6 @@ void near_misses(void)
 {
     each_date();
     each_total();
-    each_long_list();
 }
 
 void sweep(void)

@@ -1,5 +1,5 @@
 -- The tests and the value of a list as loops carry them along, and the bound of a value.
-use Prim.Native.Nat.{ℕ, zero, suc, _+_, _*_, _^_, _-_, _<_, _≤_}
+use Prim.Native.Nat.{ℕ, suc, _+_, _*_, _^_, _-_, _<_, _≤_}
 use Prim.Native.Char.{code}
 use mathlib.Core.Path.{_≡_, refl, sym, ap, _∙_}
 use mathlib.Core.Bool.{Bool, true, false, _&&_, _||_, cond, and-true, or-false, and-assoc, or-assoc, and-false, or-true, false≢true}
@@ -9,8 +9,8 @@ use native.Mathlib.Numerals.{add-one}
 use native.Mathlib.Omega.{arith}
 use borrow.Author.Tests.{leb-true, eqb-true, eqb-false, eq-eqb, ne-eqb}
 use lib.Dec.{eqb, leb, lit<}
-use lib.Seq.{drop-drop}
 use lib.ListN.{length, take, drop, getD, length-drop}
+use lib.Seq.{drop-drop}
 use Rattle.laws.specs.Ascii.{ascii}
 use Rattle.laws.specs.Steps.{fold, next, next-two}
 use Rattle.fields.specs.Class.{member, every, allOf, same}
@@ -27,6 +27,10 @@ every-fold test a (x ∷ s) = every-fold test (a && test x) s ∙ and-assoc a (t
 pub some-fold : {A : Type 0} (test : A → Bool) (a : Bool) (s : List A) → fold (λ (t : Bool) (x : A). t || test x) a s ≡ a || some test s
 some-fold test a [] = sym (or-false a)
 some-fold test a (x ∷ s) = some-fold test (a || test x) s ∙ or-assoc a (test x) (some test s)
+
+pub some-append : {A : Type 0} (test : A → Bool) (s t : List A) → some test (s ++ t) ≡ some test s || some test t
+some-append test [] t = refl
+some-append test (x ∷ s) t = ap (λ (u : Bool). test x || u) (some-append test s t) ∙ sym (or-assoc (test x) (some test s) (some test t))
 
 -- what is of a class is unchanged, and so it is of the class when it is replaced
 first-or-third : (x y z w : Bool) → x || z ≡ true → x || y || z || w ≡ true
@@ -69,7 +73,7 @@ lone (x ∷ (y ∷ s)) h = absurd (omega arith)
 pub countries-over : (s : List ℕ) (i : ℕ) → length s - i ≤ 1 → countries (drop i s) ≡ []
 countries-over s i h = lone (drop i s) (simp length-drop h)
 
--- a list's countries are those of its first n bytes and those behind them: so for n = 0, and for two bytes more
+-- the countries of a list are those of its first n bytes and those behind them: so it is at 0, and two bytes on from where it is so
 abbrev Splits : ℕ → Type 0
 Splits n = (s : List ℕ) → countries s ≡ countries (take n s) ++ countries (drop n s)
 
@@ -78,18 +82,14 @@ two-more n h [] = refl
 two-more n h (x ∷ []) = refl
 two-more n h (x ∷ (y ∷ s)) = ap (λ (l : List (ℕ × ℕ)). (x, y) ∷ l) (h s)
 
--- a list's countries in fours, whatever its length: from four k on they are those of this four and those behind it
+-- a list's countries in fours, whatever its length: from the k-th four on they are those of this four and those behind it
 pub countries-fours : (s : List ℕ) (k : ℕ)
     → countries (drop (8 * k) s) ≡ countries (take 8 (drop (8 * k) s)) ++ countries (drop (8 * (k + 1)) s)
 countries-fours s k =
     let e : 8 * (k + 1) ≡ 8 * k + 8 = omega arith in
     rw (e, ← drop-drop 8 (8 * k) s) (two-more 6 (two-more 4 (two-more 2 (two-more 0 (λ t. refl)))) (drop (8 * k) s))
 
-pub some-append : {A : Type 0} (test : A → Bool) (s t : List A) → some test (s ++ t) ≡ some test s || some test t
-some-append test [] t = refl
-some-append test (x ∷ s) t = ap (λ (u : Bool). test x || u) (some-append test s t) ∙ sym (or-assoc (test x) (some test s) (some test t))
-
--- two pairs of bytes as numbers
+-- two pairs of bytes are the same exactly where they are the same number
 pub pairs-same : (x y a b : ℕ) → x < 256 → a < 256 → eqb (y * 256 + x) (b * 256 + a) ≡ eqb x a && eqb y b
 pairs-same x y a b h k = go (eqb x a) (eqb y b) refl refl
   where

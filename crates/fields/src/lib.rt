@@ -154,7 +154,8 @@ pub fn bic_shaped(page: u32, t8: &[u8]) -> bool
             | all_text(page, Class::CapitalOrDigit, &t8[8..11]))
 }
 
-// Whether x y are a b. Both pairs are compared as numbers, the first byte lowest as in memory, so that neighbours are read at once.
+// Whether x y are a b. Each pair is one number, the first byte lowest: as the two lie in a list, so that they are read at
+// once and compared in one step.
 fn same_pair(x: u8, y: u8, a: u8, b: u8) -> bool
     ensures { λ r. ⌜ r ≡ eqb x a && eqb y b ⌝ }
 {

@@ -1,19 +1,18 @@
 -- Eight bytes a turn: what is left of the list are its countries from four k on.
-use mathlib.Core.Path.{_≡_, refl, sym, ap, _∙_}
-use mathlib.Core.Bool.{Bool, true, false, _&&_, _||_}
-use mathlib.Core.List.{List, _++_}
-use Prim.Native.Nat.{ℕ, _+_, _*_, _-_, _/_, _≤_, _<_}
+use mathlib.Core.Path.{_≡_, refl, _∙_}
+use mathlib.Core.Bool.{Bool, true, false, _||_}
+use mathlib.Core.List.{List}
+use Prim.Native.Nat.{ℕ, _+_, _*_, _-_, _≤_}
 use native.Mathlib.Omega.{arith}
-use lib.Dec.{eqb}
 use lib.ListN.{length, take, drop, length-drop}
 use lib.Seq.{take-all}
 use borrow.Author.Needs.{needs}
-use Rattle.fields.specs.Lists.{some, isListed, countries}
+use Rattle.fields.specs.Lists.{isListed}
 use Rattle.fields.specs.Laws.{countries-fours, some-append}
 use Rattle.fields.proofs.listed.Statement.{statement}
 use Rattle.fields.proofs.listed.Tie as tie
 
--- r is what the k-th four answers: it decides, or what is left does
+-- r is what the k-th four answers: it decides, or what is left behind it does
 turn : (list : List ℕ) (a b k : ℕ) (whole r t : Bool) → isListed (drop (8 * k) list) a b ≡ whole
     → r ≡ isListed (take (8 * k + 8 - 8 * k) (drop (8 * k) list)) a b → r ≡ t → t || isListed (drop (8 * (k + 1)) list) a b ≡ whole
 unfolding isListed
@@ -21,7 +20,7 @@ turn list a b k whole r t e q u =
     let eight : 8 * k + 8 - 8 * k ≡ 8 = omega arith in
     rw (← u, q, eight, ← some-append, ← countries-fours) e
 
--- and behind the last four the rest does
+-- behind the last four the rest does
 rest : (list : List ℕ) (a b k fours : ℕ) (whole : Bool) → fours ≡ k → isListed (drop (8 * k) list) a b ≡ whole
     → isListed (take (length list - 8 * fours) (drop (8 * fours) list)) a b ≡ whole
 rest list a b k fours whole h e =
