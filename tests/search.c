@@ -13,7 +13,7 @@
 
 enum { FRONT, MIDDLE, END, IN_TURN, ABSENT, COUNTRIES = ANNEX_II_BYTES / 2, ROUNDS = 25, LOOPS = 100 };
 
-/* In turn, neighbours of a country stand far from it in the list. */
+/* In turn, countries that follow one another stand far apart in the list. */
 static const char *country(int which, size_t i)
 {
     switch (which) {

@@ -1,12 +1,12 @@
 /* The search of the country lists, request A4 of document 02: its answers stay as they are, "for any lent bytes and odd
-   lengths". Every short length with the country at every place, pairs that stand across two countries, near misses, lists of
-   random bytes, and long lists. */
+   lengths". Every short length with the country at every place, between near misses and between any bytes, pairs that stand
+   across two countries, lists of few letters, and long lists. */
 #include <string.h>
 
 #include "drafts.h"
 #include "suites.h"
 
-/* A payment whose country is looked up, the list that has to have it, and what is due where it is not there. */
+/* A payment whose country is looked up, in the list of its kind, and what is due where it is not there. */
 typedef struct { payment_kind kind; unsigned rule; int at; } lookup;
 
 static const lookup lookups[] = {{CODE_AND_BANK, 26, 64}, {BIC_ALONE, 28, 207}, {CHEQUE, 28, 207}};
@@ -15,7 +15,6 @@ enum { LOOKUPS = sizeof lookups / sizeof lookups[0], SHORT = 41 };
 /* Any two bytes may be a country: one is listed where the list has it. */
 static void judge_country(const lookup *l, const uint8_t *list, size_t n, const uint8_t country[2], bool there)
 {
-    static unsigned turn = 0;
     bool cheque = l->kind == CHEQUE;
     payments = 1;
     draft_n = file_bytes(1);
@@ -25,11 +24,7 @@ static void judge_country(const lookup *l, const uint8_t *list, size_t n, const 
     lend_draft();
     use_lists(cheque ? (const uint8_t *)annex_ii : list, cheque ? ANNEX_II_BYTES : n,
               cheque ? list : (const uint8_t *)annex_i, cheque ? n : ANNEX_I_BYTES);
-    verdict told = broken_at(there ? 0 : l->rule, 1, l->at);
-    if (turn++ % 4 == 0)
-        judge_each_way(told);
-    else
-        judge_lent(told);
+    judge_by_turns(broken_at(there ? 0 : l->rule, 1, l->at));
 }
 
 static void look_up(const uint8_t *list, size_t n, const uint8_t country[2], bool there)
@@ -40,9 +35,10 @@ static void look_up(const uint8_t *list, size_t n, const uint8_t country[2], boo
 
 /* ---- Every short length, every place ----------------------------------------------------------- */
 
-enum { NEAR_MISSES = 11 };
+enum { NEAR_MISSES = 11, ANY_BYTES = NEAR_MISSES, FILLERS = NEAR_MISSES + 4 };
 
-/* Two bytes that are not a b, but near to it: the other way round, one byte right, the next number up or down. */
+/* Two bytes that are not a b, but near to it: the other way round, one bit of one byte, one byte twice, each byte one up or
+   down. */
 static void near_miss(uint8_t at[2], size_t way, uint8_t a, uint8_t b)
 {
     const int near[NEAR_MISSES][2] = {{b, a}, {a, b ^ 1}, {a ^ 1, b}, {a, b ^ 0x80}, {a ^ 0x80, b}, {a, a}, {b, b},
@@ -51,44 +47,51 @@ static void near_miss(uint8_t at[2], size_t way, uint8_t a, uint8_t b)
         at[i] = (uint8_t)near[way % NEAR_MISSES][i];
 }
 
-/* Near misses alone, and the country from this byte on, as far as the list goes. */
-static void near_misses_but_one(uint8_t *list, size_t n, const uint8_t country[2], size_t place, size_t way)
+static void random_pair(uint8_t at[2])
+{
+    for (int i = 0; i < 2; i++)
+        at[i] = (uint8_t)any();
+}
+
+/* A list with the country from this byte on, as far as the list goes, between near misses or any bytes. */
+static void list_with(uint8_t *list, size_t n, const uint8_t country[2], size_t place, size_t filler)
 {
     uint8_t full[SHORT + 3];
     for (size_t i = 0; i < SHORT + 3; i += 2)
-        near_miss(full + i, i / 2 + way, country[0], country[1]);
+        if (filler < ANY_BYTES)
+            near_miss(full + i, i / 2 + filler, country[0], country[1]);
+        else
+            random_pair(full + i);
     if (place < n)
         memcpy(full + place, country, 2);
     memcpy(list, full, n);
 }
 
 /* The country at every byte: there at an even one, if the list has its second byte too. At an odd one it stands across two
-   countries, and of the last byte of an odd length there is no second one. The place n stands for a list without it. */
+   countries, and of the last byte of an odd length there is no second one. The place n stands for a list without it. Any
+   bytes may have the country by chance besides. */
 static void each_place(const uint8_t country[2])
 {
     uint8_t list[SHORT];
     for (size_t n = 0; n <= SHORT; n++)
         for (size_t place = 0; place <= n; place++)
-            for (size_t way = 0; way < NEAR_MISSES; way++) {
-                near_misses_but_one(list, n, country, place, way);
-                look_up(list, n, country, place % 2 == 0 && place + 1 < n);
+            for (size_t filler = 0; filler < FILLERS; filler++) {
+                bool there = place % 2 == 0 && place + 1 < n;
+                list_with(list, n, country, place, filler);
+                look_up(list, n, country, there || (filler >= ANY_BYTES && is_listed(list, n, country)));
             }
 }
 
-/* ---- Random bytes ------------------------------------------------------------------------------ */
+/* ---- Few letters: the country often stands there more than once, or across two countries --------- */
 
-/* Of few letters, so that the country often stands there, once or more, or across two countries; or of any bytes, and the
-   country at some place of it, or not. */
-static void look_up_at_random(size_t n)
+static void look_up_in_few_letters(size_t n)
 {
     uint8_t list[SHORT], country[2];
-    size_t letters = one_in(3) ? 256 : 2 + below(3);
+    size_t letters = 2 + below(3);
     for (size_t i = 0; i < n; i++)
-        list[i] = (uint8_t)(letters == 256 ? any() : 'R' + below(letters));
+        list[i] = (uint8_t)('R' + below(letters));
     for (int i = 0; i < 2; i++)
-        country[i] = (uint8_t)(letters == 256 ? any() : 'R' + below(letters));
-    if (letters == 256 && n > 1 && !one_in(4))
-        memcpy(list + below(n - 1), country, 2);
+        country[i] = (uint8_t)('R' + below(letters));
     look_up(list, n, country, is_listed(list, n, country));
 }
 
@@ -122,6 +125,7 @@ static void each_long_list(void)
     }
 }
 
+/* The second country has a near miss, FF 00, that is the same number where a byte counts 255 and not 256. */
 void each_country_list(void)
 {
     static const uint8_t countries[2][2] = {{'U', 'S'}, {0, 1}};
@@ -129,14 +133,19 @@ void each_country_list(void)
     for (int i = 0; i < 2; i++)
         each_place(countries[i]);
     for (size_t n = 0; n <= SHORT; n++)
-        for (int k = 0; k < 60; k++)
-            look_up_at_random(n);
+        for (int k = 0; k < 40; k++)
+            look_up_in_few_letters(n);
     each_long_list();
     use_annexes();
 }
 
 void random_country_list(void)
 {
-    look_up_at_random(below(SHORT + 1));
+    uint8_t list[SHORT], country[2];
+    size_t n = below(SHORT + 1), place = below(n + 1);
+    random_pair(country);
+    list_with(list, n, country, place, ANY_BYTES);
+    look_up(list, n, country, is_listed(list, n, country));
+    look_up_in_few_letters(n);
     use_annexes();
 }

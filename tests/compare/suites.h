@@ -45,6 +45,7 @@ void judge_lent(verdict told);
 void read_lent(verdict told);                       /* by the judge, and in cuts */
 void judge_for_payroll_hosts(verdict told);         /* on page 0; on another one there is no such call */
 void judge_each_way(verdict told);                  /* in all three ways */
+void judge_by_turns(verdict told);                  /* every fourth time in all three, else by the judge alone */
 void another_call(size_t turn, verdict told);
 void show_part(uint64_t record, uint64_t field, bool walked);       /* walked: no rule of 1 to 5 is broken */
 

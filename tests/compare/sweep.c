@@ -136,15 +136,10 @@ static unsigned rule_broken(const stretch *s, char who, int at, uint8_t old, con
     return r[at] == old ? 0 : s->digit_rule;
 }
 
-/* Every fourth time by the reader and by the call for payroll hosts too. */
 static void judge_draft(verdict told)
 {
-    static unsigned turn = 0;
     lend_draft();
-    if (turn++ % 4 == 0)
-        judge_each_way(told);
-    else
-        judge_lent(told);
+    judge_by_turns(told);
 }
 
 /* The draft with one other byte; with one of the other calls now and then. */

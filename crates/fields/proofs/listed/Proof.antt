@@ -1,4 +1,4 @@
--- Eight bytes a turn: what is left of the list are its countries from four k on.
+-- Eight bytes a turn: what is left of the list are its countries from the k-th four on.
 use mathlib.Core.Path.{_≡_, refl, _∙_}
 use mathlib.Core.Bool.{Bool, true, false, _||_}
 use mathlib.Core.List.{List}
@@ -20,7 +20,7 @@ turn list a b k whole r t e q u =
     let eight : 8 * k + 8 - 8 * k ≡ 8 = omega arith in
     rw (← u, q, eight, ← some-append, ← countries-fours) e
 
--- behind the last four the rest does
+-- once the fours are over, the rest of the list decides
 rest : (list : List ℕ) (a b k fours : ℕ) (whole : Bool) → fours ≡ k → isListed (drop (8 * k) list) a b ≡ whole
     → isListed (take (length list - 8 * fours) (drop (8 * fours) list)) a b ≡ whole
 rest list a b k fours whole h e =
