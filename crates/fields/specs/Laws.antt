@@ -73,7 +73,7 @@ lone (x ∷ (y ∷ s)) h = absurd (omega arith)
 pub countries-over : (s : List ℕ) (i : ℕ) → length s - i ≤ 1 → countries (drop i s) ≡ []
 countries-over s i h = lone (drop i s) (simp length-drop h)
 
--- a list may be split at place n: its countries are those before it and those from it on. So it may at 0, and, where at n, at n + 2
+-- a list splits at place n where its countries are those before n and those from n on: it does at 0, and with n at n + 2
 abbrev Splits : ℕ → Type 0
 Splits n = (s : List ℕ) → countries s ≡ countries (take n s) ++ countries (drop n s)
 
