@@ -7,17 +7,18 @@ use mathlib.Core.List.{List, [], _∷_, _++_, map, append-assoc}
 use native.Mathlib.Nat.{add-zero}
 use native.Mathlib.Omega.{arith}
 use borrow.Author.Tests.{leb-true, le-leb, lt-leb, lt-ltb, le-ltb}
-use lib.Dec.{leb, ltb}
+use lib.Dec.{leb, ltb, lit≤}
 use lib.ListN.{length, take, drop, length-append, take-append-drop}
 use lib.Seq.{length-take-le}
 use Rattle.charset.specs.Table.{rep, rep-rep, text}
 use Rattle.records.specs.Places.{part}
+use Rattle.records.specs.Inside.{part-le}
 use Rattle.records.specs.declared.Span.{Span}
 use Rattle.forwarding.specs.Between.{between, between-long, between-rest}
-use Rattle.forwarding.specs.Text.{lies}
+use Rattle.forwarding.specs.Text.{qTexts, tTexts, lies}
 use Rattle.forwarding.specs.Forwarded.{fwd, notes}
 use Rattle.forwarding.specs.Parts.{never, always, fwd-never, notes-never, fwd-always, fwd-append, notes-append, fwd-same, notes-same, fwd-fwd}
-use Rattle.forwarding.specs.Changes.{textNotes, text-notes, changes, changes-noted}
+use Rattle.forwarding.specs.Changes.{textNotes, text-notes, changes, changes-noted, changes-few}
 
 -- the notes of the fields of a record that stands at place a, and how many they are
 abbrev pub fieldNotes : List Span → ℕ → List ℕ → List ℕ
@@ -33,6 +34,21 @@ field-count [] a rec = refl
 field-count (s ∷ ss) a rec =
     ap₂ _+_ (changes-noted (a + s .start) (part s rec)) (field-count ss a rec)
     ∙ sym (length-append (textNotes (a + s .start) (part s rec)) (fieldNotes ss a rec))
+
+-- no record has more changes than bytes
+abbrev spread : List Span → ℕ
+spread [] = 0
+spread (s ∷ ss) = (s .end - s .start) + spread ss
+
+few : (ss : List Span) (rec : List ℕ) → fieldChanges ss rec ≤ spread ss
+few [] rec = lit≤ tt
+few (s ∷ ss) rec = omega (arith, few ss rec, changes-few (part s rec), part-le s rec)
+
+pub q-few : (rec : List ℕ) → fieldChanges qTexts rec ≤ 768
+q-few rec = omega (arith, few qTexts rec)
+
+pub t-few : (rec : List ℕ) → fieldChanges tTexts rec ≤ 768
+t-few rec = omega (arith, few tTexts rec)
 
 -- fields and then more fields
 pub notes-more : (ss us : List Span) (a : ℕ) (rec : List ℕ) → fieldNotes (ss ++ us) a rec ≡ fieldNotes ss a rec ++ fieldNotes us a rec

@@ -32,7 +32,7 @@ module _ (F : ℕ → ℕ → ℕ) (lo hi : ℕ → ℕ) (pos : (k : ℕ) → 0 
     pub records-before : (k : ℕ) → k < b .rec → Holds k
     pub rules-before : (r : ℕ) → lo (b .rec) ≤ r → r < b .number → F (b .rec) r ≡ 0
 
-  rules-hold : (k : ℕ) → firstRule F lo hi k ≡ 0 → Holds k
+  pub rules-hold : (k : ℕ) → firstRule F lo hi k ≡ 0 → Holds k
   rules-hold k e = by (firstRule F lo hi k) e (means (breaks F k) (λ r. r) 0 (lo k) (hi k))
     where
       by : (v : ℕ) → v ≡ 0 → Means (breaks F k) (λ r. r) 0 (lo k) (hi k) v → Holds k

@@ -137,7 +137,14 @@ pub fn run(
 }
 
 // All records of a file with n T records.
-fn content(page: u32, file: &[u8], n: usize, euros: u64, transfer: &[u8], cheque: &[u8]) -> Breach
+pub fn content(
+    page: u32,
+    file: &[u8],
+    n: usize,
+    euros: u64,
+    transfer: &[u8],
+    cheque: &[u8],
+) -> Breach
     requires { ⌜ (length (now file) ≡ 512 + 768 * n) × ((1 ≤ n) × (n ≤ 9999)) ⌝ }
     ensures { λ r. ⌜ r ≡ contentOf page (now (file .entry)) n euros (now (transfer .entry)) (now (cheque .entry)) ⌝ }
 {
@@ -167,7 +174,7 @@ pub struct Totals {
 }
 
 // The sums over the T records. Cents are never carried.
-fn sum(file: &[u8], n: usize) -> Totals
+pub fn sum(file: &[u8], n: usize) -> Totals
     requires { ⌜ (length (now file) ≡ 512 + 768 * n) × (n ≤ 9999) ⌝ }
     ensures { λ r. ⌜ (r .euros ≡ euroSum (now (file .entry)) n) × (r .cents ≡ centSum (now (file .entry)) n) ⌝ }
 {

@@ -9,17 +9,13 @@ use lib.Dec.{eqb, leb, ltb, lit≤}
 use lib.ListN.{length, take, drop, replicate, drop-of-length-le}
 use lib.Seq.{take-all}
 use Rattle.laws.specs.Choice.{either, on-eq, off-eq, off-lt}
-use Rattle.records.specs.Places.{part}
-use Rattle.records.specs.Inside.{part-le}
-use Rattle.records.specs.declared.Span.{Span}
 use Rattle.payments.specs.Rules.{keyOf}
 use Rattle.structure.specs.Walk.{faultIn}
 use Rattle.judge.specs.First.{none}
 use Rattle.judge.specs.declared.Breach.{Breach}
 use Rattle.judge.specs.Sums.{euros, cents, fileNumber, euros-lt, cents-lt}
 use Rattle.forwarding.specs.Text.{qTexts, tTexts}
-use Rattle.forwarding.specs.Changes.{changes-few}
-use Rattle.forwarding.specs.Fields.{fieldChanges}
+use Rattle.forwarding.specs.Fields.{fieldChanges, q-few, t-few}
 use Rattle.tally.specs.Record.{breachIn, orNext}
 use Rattle.tally.specs.declared.Tally.{Tally}
 
@@ -111,21 +107,6 @@ steady s e =
 pub is-steady : (s : Tally) → Steady s → isSteady s ≡ true
 is-steady s h =
     sym (off-lt false (h .few) (sym (rw (le-leb _ _ (h .euros-fit), le-leb _ _ (h .cents-fit), le-leb _ _ (h .changes-fit)))))
-
--- no record has more changes than bytes
-abbrev spread : List Span → ℕ
-spread [] = 0
-spread (s ∷ ss) = (s .end - s .start) + spread ss
-
-few : (ss : List Span) (rec : List ℕ) → fieldChanges ss rec ≤ spread ss
-few [] rec = lit≤ tt
-few (s ∷ ss) rec = omega (arith, few ss rec, changes-few (part s rec), part-le s rec)
-
-pub q-few : (rec : List ℕ) → fieldChanges qTexts rec ≤ 768
-q-few rec = omega (arith, few qTexts rec)
-
-pub t-few : (rec : List ℕ) → fieldChanges tTexts rec ≤ 768
-t-few rec = omega (arith, few tTexts rec)
 
 module _ (page : ℕ) (transfer cheque : List ℕ) (s : Tally) (slot : List ℕ) where
   -- one more record, and the sums go on fitting

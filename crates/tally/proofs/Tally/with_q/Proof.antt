@@ -1,7 +1,8 @@
 use borrow.Author.Needs.{needs}
 use native.Mathlib.Omega.{arith}
 use denote.Ref.{now}
-use Rattle.tally.specs.Settle.{q-few, told-q}
+use Rattle.forwarding.specs.Fields.{q-few}
+use Rattle.tally.specs.Settle.{told-q}
 use Rattle.tally.proofs.Tally.with_q.Statement.{statement}
 use Rattle.tally.proofs.Tally.with_q.Tie as tie
 

@@ -3,7 +3,8 @@ use native.Mathlib.Omega.{arith}
 use mathlib.Core.Path.{sym, _∙_}
 use Rattle.judge.specs.Sums.{euros-lt, cents-lt}
 use Rattle.structure.specs.Slots.{later-width}
-use Rattle.tally.specs.Settle.{t-few, told-t}
+use Rattle.forwarding.specs.Fields.{t-few}
+use Rattle.tally.specs.Settle.{told-t}
 use Rattle.tally.proofs.Tally.with_t.Statement.{statement}
 use Rattle.tally.proofs.Tally.with_t.Tie as tie
 

@@ -1,0 +1,12 @@
+pub mod Kept
+pub mod Sorted
+pub mod Digits
+pub mod Fresh
+pub mod Lists
+pub mod Sound
+pub mod Course
+pub mod Frame
+pub mod Counting
+pub mod Outcome
+pub mod Whole
+pub mod Answers
