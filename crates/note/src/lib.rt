@@ -59,7 +59,7 @@ fn field(s: &[u8], place: usize, notes: &mut [u32], have: usize) -> usize
 }
 
 // Of a record that stands at a place.
-fn q_record(rec: &[u8], notes: &mut [u32]) -> usize
+pub fn q_record(rec: &[u8], notes: &mut [u32]) -> usize
     requires { ⌜ (length (now rec) ≡ 256) × (length (fieldNotes qTexts 0 (now rec)) ≤ length (now notes)) ⌝ }
     ensures { λ r. ⌜ Noted (fieldNotes qTexts 0 (now (rec .entry))) 0 (now (notes .entry)) (now (notes .exit)) r ⌝ }
 {
@@ -67,7 +67,7 @@ fn q_record(rec: &[u8], notes: &mut [u32]) -> usize
     field(records::part(rec, at), at.start, notes, 0)
 }
 
-fn t_record(rec: &[u8], place: usize, notes: &mut [u32], have: usize) -> usize
+pub fn t_record(rec: &[u8], place: usize, notes: &mut [u32], have: usize) -> usize
     requires { ⌜ (length (now rec) ≡ 768) × (place + 768 ≤ 7679744) × (have + length (fieldNotes tTexts place (now rec)) ≤ length (now notes)) ⌝ }
     ensures { λ r. ⌜ Noted (fieldNotes tTexts place (now (rec .entry))) have (now (notes .entry)) (now (notes .exit)) r ⌝ }
 {

@@ -46,7 +46,7 @@ module _ (page : ℕ) (rec : List ℕ) where
 
 -- what a copy into a part of the same length leaves, and what the fields replaced in it then make
 module _ (s part : List ℕ) {d : List ℕ} (l : length part ≡ length s) (e : d ≡ take (length s) s ++ drop (length s) part) where
-  copied : d ≡ s
+  pub copied : d ≡ s
   copied = e ∙ ap₂ _++_ (take-length s) (over part (length s) (omega arith)) ∙ append-nil s
 
   pub copied-replaced : (page : ℕ) (ss : List Span) {f : List ℕ} → f ≡ fwd (rep page) (lies ss) 0 d → f ≡ fwd (rep page) (lies ss) 0 s
@@ -107,10 +107,10 @@ module _ (page : ℕ) (file out : List ℕ) (sized : Sized file) (room : length 
 
     -- then the T records, and then Z, copied as it is
     module _ {out₂ : List ℕ} (e₂ : out₂ ≡ put 256 (sentIn page 256 (zAt file) file) out₁) where
-      after-t : out₂ ≡ put 0 (sentIn page 0 (zAt file) file) out
+      pub after-t : out₂ ≡ put 0 (sentIn page 0 (zAt file) file) out
       after-t = sent-then page file out room 0 256 (omega arith) (omega (arith, sized .long)) (zAt file) (omega (arith, sized .long)) after-q e₂
 
-      same-t : length out₂ ≡ length out
+      pub same-t : length out₂ ≡ length out
       same-t = sent-same page file out room 0 (zAt file) (omega arith) (omega arith) after-t
 
       pub place-z : (d : List ℕ) → d ≡ take (length (zPart file file)) (zPart file file) ++ drop (length (zPart file file)) (zPart file out₂)

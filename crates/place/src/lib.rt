@@ -48,7 +48,7 @@ fn replace_t(page: u32, rec: &mut [u8])
 }
 
 // A record into its part of the output.
-fn q_record(page: u32, rec: &[u8], part: &mut [u8])
+pub fn q_record(page: u32, rec: &[u8], part: &mut [u8])
     requires { ⌜ (length (now rec) ≡ 256) × (length (now part) ≡ 256) ⌝ }
     ensures { λ _. ⌜ now (part .exit) ≡ fwd (rep page) (lies qTexts) 0 (now (rec .entry)) ⌝ }
 {
@@ -56,7 +56,7 @@ fn q_record(page: u32, rec: &[u8], part: &mut [u8])
     replace_q(page, part);
 }
 
-fn t_record(page: u32, rec: &[u8], part: &mut [u8])
+pub fn t_record(page: u32, rec: &[u8], part: &mut [u8])
     requires { ⌜ (length (now rec) ≡ 768) × (length (now part) ≡ 768) ⌝ }
     ensures { λ _. ⌜ now (part .exit) ≡ fwd (rep page) (lies tTexts) 0 (now (rec .entry)) ⌝ }
 {

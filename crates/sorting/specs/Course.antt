@@ -27,27 +27,17 @@ slot-between file m =
     let at : placeOf m ≡ recordAt (m + 1) = omega (arith, place-is (m + 1)) in
     ap₂ (λ (w a : ℕ). take w (drop a file)) (wide ∙ sym (later-width (m + 1) (omega arith))) at
 
--- the first k slots, the next, and the others
-pub slots-next : (file : List ℕ) (i k : ℕ) → slotsFrom file i (k + 1) ≡ slotsFrom file i k ++ (slotAt file (i + k) ∷ [])
-slots-next file i zero = ap (λ (j : ℕ). slotAt file j ∷ []) (omega arith)
-slots-next file i (suc k) =
-    let e : suc k + 1 ≡ suc (k + 1) = omega arith in
-    let f : suc i + k ≡ i + suc k = omega arith in
-    ap (slotsFrom file i) e
-    ∙ ap (λ (l : List (List ℕ)). slotAt file i ∷ l) (slots-next file (suc i) k ∙ ap (λ (j : ℕ). slotsFrom file (suc i) k ++ (slotAt file j ∷ [])) f)
-
-pub slots-split : (file : List ℕ) (i k m : ℕ) → slotsFrom file i (k + suc m) ≡ slotsFrom file i k ++ (slotAt file (i + k) ∷ slotsFrom file (i + k + 1) m)
-slots-split file i zero m =
-    let e : 0 + suc m ≡ suc m = omega arith in
+-- the first k slots, and the others
+pub slots-append : (file : List ℕ) (i k m : ℕ) → slotsFrom file i (k + m) ≡ slotsFrom file i k ++ slotsFrom file (i + k) m
+slots-append file i zero m =
+    let e : 0 + m ≡ m = omega arith in
     let f : i ≡ i + 0 = omega arith in
-    let g : suc i ≡ i + 0 + 1 = omega arith in
-    ap (slotsFrom file i) e ∙ ap₂ (λ (a b : ℕ). slotAt file a ∷ slotsFrom file b m) f g
-slots-split file i (suc k) m =
-    let e : suc k + suc m ≡ suc (k + suc m) = omega arith in
+    ap₂ (slotsFrom file) f e
+slots-append file i (suc k) m =
+    let e : suc k + m ≡ suc (k + m) = omega arith in
     let f : suc i + k ≡ i + suc k = omega arith in
     ap (slotsFrom file i) e
-    ∙ ap (λ (l : List (List ℕ)). slotAt file i ∷ l)
-    (slots-split file (suc i) k m ∙ ap (λ (j : ℕ). slotsFrom file (suc i) k ++ (slotAt file j ∷ slotsFrom file (j + 1) m)) f)
+    ∙ ap (λ (l : List (List ℕ)). slotAt file i ∷ l) (slots-append file (suc i) k m ∙ ap (λ (j : ℕ). slotsFrom file (suc i) k ++ slotsFrom file j m) f)
 
 -- one record more, behind us
 module _ (rule : List ℕ → ℕ) (us : List (List ℕ)) (t : List ℕ) where

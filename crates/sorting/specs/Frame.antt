@@ -5,7 +5,7 @@ use mathlib.Core.List.{List, [], _∷_, _++_}
 use native.Mathlib.Omega.{arith}
 use lib.ListN.{length, getD}
 use Rattle.records.specs.Places.{recordAt}
-use Rattle.structure.specs.Slots.{slotAt, q-long, t-long, place-in}
+use Rattle.structure.specs.Slots.{slotAt, q-long, t-long, z-long, place-in}
 use Rattle.structure.specs.Walk.{structureOf}
 use Rattle.structure.specs.Fits.{Fit, fits}
 use Rattle.structure.specs.declared.Shape.{Shape}
@@ -17,7 +17,7 @@ use Rattle.forwarding.specs.Sized.{Sized}
 use Rattle.sorting.specs.Kept.{kept, freshZ, recordsBy, tRecords, ruleIn, keptIn, keptBy, keptFile}
 use Rattle.sorting.specs.Lists.{counts-add, kept-long}
 use Rattle.sorting.specs.Fresh.{fresh-long}
-use Rattle.sorting.specs.Course.{slots-next, slots-split, records-sized}
+use Rattle.sorting.specs.Course.{slots-append, records-sized}
 
 module _ (file : List ℕ) (n : ℕ) (e : structureOf file ≡ Fits n) where
   pub fit : Fit file n
@@ -45,21 +45,25 @@ module _ (file : List ℕ) (n : ℕ) (e : structureOf file ≡ Fits n) where
   pub file-is : file ≡ fileOf (slotAt file 0) (tRecords file) (slotAt file (length (tRecords file) + 1))
   file-is = made file n fit .1 ∙ ap₂ (fileOf (slotAt file 0)) (sym records-are) (sym z-is)
 
-  -- record k + 1, those before it, and those behind
+  -- the first k records and the others; of these the first is record k + 1
+  pub records-upto : (k : ℕ) → k ≤ n → tRecords file ≡ slotsFrom file 1 k ++ slotsFrom file (k + 1) (n - k)
+  records-upto k l =
+      let all : n ≡ k + (n - k) = omega arith in
+      let next : 1 + k ≡ k + 1 = omega arith in
+      records-are ∙ ap (slotsFrom file 1) all ∙ slots-append file 1 k (n - k) ∙ ap (λ (j : ℕ). slotsFrom file 1 k ++ slotsFrom file j (n - k)) next
+
   abbrev pub behind : ℕ → List (List ℕ)
-  behind k = slotsFrom file (1 + k + 1) (n - (k + 1))
+  behind k = slotsFrom file (suc (k + 1)) (n - (k + 1))
 
   pub records-split : (k : ℕ) → k < n → tRecords file ≡ slotsFrom file 1 k ++ (slotAt file (k + 1) ∷ behind k)
   records-split k l =
-      let m : k + suc (n - (k + 1)) ≡ n = omega arith in
-      let next : 1 + k ≡ k + 1 = omega arith in
-      records-are ∙ ap (slotsFrom file 1) (sym m) ∙ slots-split file 1 k (n - (k + 1))
-      ∙ ap (λ (j : ℕ). slotsFrom file 1 k ++ (slotAt file j ∷ behind k)) next
+      let left : n - k ≡ suc (n - (k + 1)) = omega arith in
+      records-upto k (omega arith) ∙ ap (λ (m : ℕ). slotsFrom file 1 k ++ slotsFrom file (k + 1) m) left
 
   pub records-more : (k : ℕ) → slotsFrom file 1 (k + 1) ≡ slotsFrom file 1 k ++ (slotAt file (k + 1) ∷ [])
   records-more k =
       let next : 1 + k ≡ k + 1 = omega arith in
-      slots-next file 1 k ∙ ap (λ (j : ℕ). slotsFrom file 1 k ++ (slotAt file j ∷ [])) next
+      slots-append file 1 k 1 ∙ ap (λ (j : ℕ). slotsFrom file 1 k ++ (slotAt file j ∷ [])) next
 
   -- the code finds each record, and each is as long as its kind
   pub found : (k : ℕ) → k ≤ n + 1 → (k ≤ 10000) × (recordAt k ≤ length file)
@@ -67,6 +71,9 @@ module _ (file : List ℕ) (n : ℕ) (e : structureOf file ≡ Fits n) where
 
   pub q-found : {q : List ℕ} → q ≡ slotAt file 0 → length q ≡ 256
   q-found p = ap length p ∙ q-long file n (fit .long)
+
+  pub z-found : {z : List ℕ} → z ≡ slotAt file (n + 1) → length z ≡ 256
+  z-found p = ap length p ∙ z-long file n (fit .long)
 
   pub t-found : {t : List ℕ} (k : ℕ) → 1 ≤ k → k ≤ n → t ≡ slotAt file k → length t ≡ 768
   t-found k a b p = ap length p ∙ t-long file n (fit .long) k a b

@@ -64,6 +64,14 @@ module _ (page : ℕ) (transfer cheque key t : List ℕ) where
       by v e (inl p) = eqb-true (tFault page transfer cheque key t rule) 0 (not-false _ (p .1 rule a b))
       by v e (inr p) = absurd (omega (arith, p .answer, p .above))
 
+  pub first-below : firstOf page transfer cheque key t < 36
+  unfolding firstOf breaks
+  first-below = by (firstOf page transfer cheque key t) (means breaks (λ (r : ℕ). r) 0 20 36)
+    where
+      by : (v : ℕ) → Means breaks (λ (r : ℕ). r) 0 20 36 v → v < 36
+      by v (inl p) = omega (arith, p .0)
+      by v (inr p) = omega (arith, p .answer, p .below)
+
 -- rule 21 reads T3 and T4b of the key, and no other rule reads the key
 key-alike : (page : ℕ) (transfer cheque key key' t : List ℕ) (rule : ℕ) → keyT3 key ≡ keyT3 key' → keyT4b key ≡ keyT4b key'
     → tFault page transfer cheque key t rule ≡ tFault page transfer cheque key' t rule

@@ -1,0 +1,52 @@
+use borrow.Author.Needs.{needs}
+use native.Mathlib.Omega.{arith}
+use Prim.Native.Nat.{_+_, _≤_}
+use mathlib.Core.Path.{refl}
+use lib.ListN.{length}
+use Rattle.sending.specs.Turns.{paid-back, paid-out}
+use Rattle.sending.proofs.payment.Statement.{statement}
+use Rattle.sending.proofs.payment.Tie as tie
+
+named : tie.Need-slice-write-list
+named c = c .before .before .before .before .before .pre .1 .names (c .if1 .taken)
+
+returns : tie.Need-returns
+returns c =
+    let a = c .before .before .before .before .before .args in
+    paid-back (a .page) (a .rec .now) (a .k) (a .rule) (a .next) (a .out .now) (a .notes .now) (a .list .now) (c .if1 .taken) (named c) refl
+
+room : (c : tie.Else1) → (c .before .before .before .before .before .args .next .at + 768 ≤ length (c .before .before .before .before .before .args .out .now)) × (c .before .before .before .before .before .args .next .at + 768 ≤ 7679744)
+room c = c .before .before .before .before .before .pre .1 .bytes (c .if1 .left)
+
+note-requires : tie.Need-t-record-requires-2
+note-requires c κs =
+    let start = c .before .before .before .before .before .before .before .before .before .before in
+    let left = c .before .before .before .before .before .if1 .left in
+    (start .pre .0, start .pre .1 .bytes left .1, start .pre .1 .places left)
+
+returns-2 : tie.Need-returns-2
+returns-2 c =
+    let a = c .before .before .before .before .before .before .before .before .before .before .before .before .before .args in
+    paid-out (a .page) (a .rec .now) (a .k) (a .rule) (a .next) (a .out .now) (a .notes .now) (a .list .now) (c .before .before .before .before .before .before .before .before .if1 .left) (c .before .before .before .before .before .before .t-record .ensures) (c .before .before .t-record2 .ensures)
+
+pub payment-spec : {M : Type 1} → statement M
+payment-spec =
+    tie.close
+    (tie.spec
+    (λ c. search needs)
+    (λ c. search needs)
+    (λ c. search needs)
+    (λ c. let h = named c in search needs)
+    named
+    (λ c. let h = named c in search needs)
+    (λ c. search needs)
+    returns
+    (λ c. omega (arith, room c .1))
+    (λ c. search needs)
+    (λ c. search needs)
+    (λ c. room c .0)
+    (λ c κs. search needs)
+    note-requires
+    (λ c. search needs)
+    (λ c. search needs)
+    returns-2)

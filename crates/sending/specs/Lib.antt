@@ -1,0 +1,5 @@
+pub mod Writing
+pub mod Turns
+pub mod Course
+pub mod Sending
+pub mod Whole
