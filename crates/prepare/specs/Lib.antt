@@ -1,2 +1,4 @@
 pub mod Prepared
+pub mod Default
 pub mod Outcome
+pub mod DefaultOutcome

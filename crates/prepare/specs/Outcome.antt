@@ -13,12 +13,25 @@ use Rattle.judge.specs.Verdict.{verdictOf}
 use Rattle.judge.specs.Told.{sound-fits}
 use Rattle.judge.specs.declared.Verdict.{Verdict}
 use Rattle.forwarding.specs.Forwarded.{forwarded, notesOf}
-use Rattle.forwarding.specs.Put.{put, put-none}
+use Rattle.forwarding.specs.Put.{put}
 use Rattle.forwarding.specs.Changes.{as-it-is}
-use Rattle.forwarding.specs.Noted.{Noted}
+use Rattle.forwarding.specs.Noted.{Noted, noted-none, noted-is}
 use Rattle.forwarding.specs.Sized.{Sized}
 use Rattle.prepare.specs.Prepared.{notPrepared, done, sendOf, prepareBy, prepareOf, outputAfter, notesAfter, SentAs, PreparedAs}
 use Rattle.prepare.specs.declared.Prepared.{Prepared}
+
+-- where nothing changes, the file as it is is the forwarded one, and it has no notes
+module _ (page : ℕ) (file out notes : List ℕ) (none : length (notesOf page file) ≡ 0) where
+  pub same-output : {out' : List ℕ} → out' ≡ take (length file) file ++ drop (length file) out → out' ≡ put 0 (forwarded page file) out
+  same-output e =
+      let from-0 : length file ≡ 0 + length file = omega arith in
+      e
+      ∙ ap (λ (l : List ℕ). l ++ drop (length file) out) (take-all (length file) file (omega arith))
+      ∙ ap (λ (k : ℕ). file ++ drop k out) from-0
+      ∙ ap (λ (f : List ℕ). put 0 f out) (sym (as-it-is page file none))
+
+  pub same-notes : Noted (notesOf page file) 0 notes notes 0
+  same-notes = noted-is (sym (empty (notesOf page file) none)) (noted-none 0 notes)
 
 -- a refusal leaves the output and the note places as they are
 module _ (page : ℕ) (file : List ℕ) {r : Prepared} {number rec : ℕ} (e : r ≡ notPrepared number rec) (some : 0 < number) where
@@ -45,24 +58,6 @@ module _ (page : ℕ) (file out notes : List ℕ) where
     pub sent-61 : {r : Prepared} → r ≡ notPrepared 61 0 → length notes < length (notesOf page file) → SentAs page file out notes r out notes
     unfolding sendOf
     sent-61 e h = refuses e (omega arith) (off-lt _ room (on-lt _ h refl))
-
-    -- nothing changes: the file goes on as it is
-    pub sent-same : {out' : List ℕ} → length (notesOf page file) ≡ 0 → out' ≡ take (length file) file ++ drop (length file) out
-        → SentAs page file out notes (done 0) out' notes
-    unfolding sendOf
-    sent-same none e =
-        let none-put : put 0 (notesOf page file) notes ≡ notes = ap (λ (l : List ℕ). put 0 l notes) (empty (notesOf page file) none) ∙ put-none 0 notes in
-        let from-0 : length file ≡ 0 + length file = omega arith in
-        let places : length (notesOf page file) ≤ length notes = omega (arith, none) in
-        record {
-          answer-is = off-lt (notPrepared 60 0) room (off-lt (notPrepared 61 0) places (ap done (sym none)));
-          out-is =
-              e
-              ∙ ap (λ (l : List ℕ). l ++ drop (length file) out) (take-all (length file) file (omega arith))
-              ∙ ap (λ (k : ℕ). file ++ drop k out) from-0
-              ∙ ap (λ (f : List ℕ). put 0 f out) (sym (as-it-is page file none));
-          notes-are = sym none-put;
-        }
 
     pub sent-0 : {n : ℕ} {out' notes' : List ℕ} → length (notesOf page file) ≤ length notes → out' ≡ put 0 (forwarded page file) out
         → Noted (notesOf page file) 0 notes notes' n → SentAs page file out notes (done n) out' notes'

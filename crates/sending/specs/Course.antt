@@ -73,9 +73,10 @@ module _ (page : ℕ) (rule : List ℕ → ℕ) (q : List ℕ) (us vs : List (Li
     inside = fits whole-sized (h .placed .begins) more
 
     room-kept : (next .at + 768 ≤ length out') × (next .at + 768 ≤ 7679744)
-    room-kept =
-        (omega (arith, inside, place-same page whole-sized (rooms .bytes) (h .placed), rooms .bytes),
-        omega (arith, inside, whole-sized .long, whole-sized .most))
+    room-kept = (
+      omega (arith, inside, place-same page whole-sized (rooms .bytes) (h .placed), rooms .bytes),
+      omega (arith, inside, whole-sized .long, whole-sized .most),
+    )
 
     notes-kept : next .notes + length (fieldNotes tTexts (next .at) t) ≤ length notes'
     notes-kept =
@@ -92,7 +93,7 @@ module _ (page : ℕ) (rule : List ℕ → ℕ) (q : List ℕ) (us vs : List (Li
   name-room : (rule t ≡ 0 → ⊥) → next .names < length list'
   name-room f =
       let one : named rule (1 + length us) (t ∷ vs) ≡ ((1 + length us) * 100 + rule t) ∷ named rule (suc (1 + length us)) vs =
-          ap (λ (b : Bool). cond b (named rule (suc (1 + length us)) vs) (((1 + length us) * 100 + rule t) ∷ named rule (suc (1 + length us)) vs)) (ne-eqb (rule t) 0 f) in
+      ap (λ (b : Bool). cond b (named rule (suc (1 + length us)) vs) (((1 + length us) * 100 + rule t) ∷ named rule (suc (1 + length us)) vs)) (ne-eqb (rule t) 0 f) in
       omega (arith, h .listed .next-is, noted-length (h .listed) names-fit, rooms .names, ap length (named-append rule 1 us (t ∷ vs)), length-append (named rule 1 us) (named rule (1 + length us) (t ∷ vs)), ap length one)
 
   pub sent-room : (k first : ℕ) → first ≡ rule t → k ≤ 9999 → first < 100 → RoomFor t k first next out' notes' list'
@@ -110,7 +111,7 @@ module _ (page : ℕ) (rule : List ℕ → ℕ) (q : List ℕ) (us vs : List (Li
     list-now : Noted (named rule 1 (us ++ (t ∷ []))) 0 list list'' (next'' .names)
     list-now =
         let same : cond (eqb first 0) [] ((k * 100 + first) ∷ []) ≡ named rule (1 + length us) (t ∷ []) =
-            ap₂ (λ (r j : ℕ). cond (eqb r 0) [] ((j * 100 + r) ∷ [])) e number in
+        ap₂ (λ (r j : ℕ). cond (eqb r 0) [] ((j * 100 + r) ∷ [])) e number in
         noted-is (sym named-here) (noted-append (h .listed) (noted-is same (p .listed)) names-fit)
 
     now-kept : first ≡ 0 → SentTo page rule (us ++ (t ∷ [])) whole have out notes list next'' out'' notes'' list''
@@ -118,9 +119,9 @@ module _ (page : ℕ) (rule : List ℕ → ℕ) (q : List ℕ) (us vs : List (Li
         let r : rule t ≡ 0 = sym e ∙ z in
         let place : next'' .at ≡ next .at + 768 = p .at-is ∙ ap (λ (b : Bool). cond b (next .at + 768) (next .at)) (eq-eqb first 0 z) in
         let output : out'' ≡ backAs (next .at) (next .at + 768) (fwd (rep page) (lies tTexts) 0 t) out' =
-            p .placed ∙ ap (λ (b : Bool). cond b (backAs (next .at) (next .at + 768) (fwd (rep page) (lies tTexts) 0 t) out') out') (eq-eqb first 0 z) in
+        p .placed ∙ ap (λ (b : Bool). cond b (backAs (next .at) (next .at + 768) (fwd (rep page) (lies tTexts) 0 t) out') out') (eq-eqb first 0 z) in
         let notes-now : Noted (fieldNotes tTexts (next .at) (between (next .at) (next .at + 768) whole)) (next .notes) notes' notes'' (next'' .notes) =
-            noted-is (ap (λ (b : Bool). cond b (fieldNotes tTexts (next .at) t) []) (eq-eqb first 0 z) ∙ ap (fieldNotes tTexts (next .at)) (sym (here r))) (p .noted) in
+        noted-is (ap (λ (b : Bool). cond b (fieldNotes tTexts (next .at) t) []) (eq-eqb first 0 z) ∙ ap (fieldNotes tTexts (next .at)) (sym (here r))) (p .noted) in
         let placed-now = place-next page whole-sized (rooms .bytes) (h .placed) (fwd (rep page) (lies tTexts) 0 t) (more r) (ap (fwd (rep page) (lies tTexts) 0) (sym (here r))) in
         record {
           at-is = omega (arith, place, h .at-is, ap length (kept-more rule us t r), length-append (kept rule us) (t ∷ []));
@@ -133,7 +134,7 @@ module _ (page : ℕ) (rule : List ℕ → ℕ) (q : List ℕ) (us vs : List (Li
     now-returned f =
         let place : next'' .at ≡ next .at = p .at-is ∙ ap (λ (b : Bool). cond b (next .at + 768) (next .at)) (ne-eqb first 0 f) in
         let output : out'' ≡ out' =
-            p .placed ∙ ap (λ (b : Bool). cond b (backAs (next .at) (next .at + 768) (fwd (rep page) (lies tTexts) 0 t) out') out') (ne-eqb first 0 f) in
+        p .placed ∙ ap (λ (b : Bool). cond b (backAs (next .at) (next .at + 768) (fwd (rep page) (lies tTexts) 0 t) out') out') (ne-eqb first 0 f) in
         let nothing : Noted [] (next .notes) notes' notes'' (next'' .notes) = noted-is (ap (λ (b : Bool). cond b (fieldNotes tTexts (next .at) t) []) (ne-eqb first 0 f)) (p .noted) in
         let same : next'' .notes ≡ next .notes = omega (arith, nothing .next-is) in
         let places : notes'' ≡ notes' = nothing .places-are ∙ put-none (next .notes) notes' in

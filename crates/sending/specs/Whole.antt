@@ -110,9 +110,9 @@ module _ (page : ℕ) (file : List ℕ) (n : ℕ) (transfer cheque : List ℕ) {
           → FileSent page file transfer cheque out notes list (next .notes) (backAs (next .at) (next .at + 256) fz out₂) notes₂ list₂
       all-sent {z} {fz} s f =
           let fresh : fz ≡ drop (zAt whole) whole =
-              f ∙ (λ i. freshZ (s i) (can .kept-is i) (can .sum-is i))
-              ∙ ap (λ (t : List ℕ). freshZ t (length (keptIn page file transfer cheque)) (sumOf euros (keptIn page file transfer cheque))) (sym (z-is file n (can .fits)))
-              ∙ sym z-back in
+          f ∙ (λ i. freshZ (s i) (can .kept-is i) (can .sum-is i))
+          ∙ ap (λ (t : List ℕ). freshZ t (length (keptIn page file transfer cheque)) (sumOf euros (keptIn page file transfer cheque))) (sym (z-is file n (can .fits)))
+          ∙ sym z-back in
           let wide : length fz ≡ next .at + 256 - next .at = ap length fresh ∙ omega (arith, length-drop (zAt whole) whole, sized .long) in
           record {
             output =

@@ -22,7 +22,7 @@ digit-more zero v out x h l e = absurd (omega arith)
 digit-more (suc j) v out x h l e =
     let back : suc j - 1 ≡ j = omega arith in
     let written : drop j (set out j x) ≡ x ∷ drop (suc j) out =
-        ap (drop j) (set-split out j x (omega arith)) ∙ drop-at (take j out) (x ∷ drop (suc j) out) j (length-take-le j out (omega arith)) in
+    ap (drop j) (set-split out j x (omega arith)) ∙ drop-at (take j out) (x ∷ drop (suc j) out) j (length-take-le j out (omega arith)) in
     ap (λ (k : ℕ). digits k (v / 10) ++ drop k (set out k x)) back
     ∙ ap (λ (l : List ℕ). digits j (v / 10) ++ l) (written ∙ ap (λ (d : ℕ). d ∷ drop (suc j) out) e)
     ∙ sym (append-assoc (digits j (v / 10)) ((code "0" + v % 10) ∷ []) (drop (suc j) out))
@@ -42,7 +42,7 @@ module _ (z : List ℕ) (l : length z ≡ 256) (payments euros : ℕ) where
   euros-in {s} {d} {ys} e p q =
       let wide : length (between 5 20 z) ≡ 15 = between-long 5 20 z (omega arith) in
       let here : ys ≡ digits 15 euros =
-          q ∙ ap₂ (λ (s : Span) (xs : List ℕ). digits (length (between (s .start) (s .end) xs)) euros) p e ∙ ap (λ (w : ℕ). digits w euros) wide in
+      q ∙ ap₂ (λ (s : Span) (xs : List ℕ). digits (length (between (s .start) (s .end) xs)) euros) p e ∙ ap (λ (w : ℕ). digits w euros) wide in
       ap₂ (λ (s : Span) (xs : List ℕ). backAs (s .start) (s .end) ys xs) p e
       ∙ ap (λ (xs : List ℕ). backAs 5 20 xs z) here
       ∙ put-part 5 20 (digits 15 euros) z (omega arith) (digits-length 15 euros)
@@ -55,7 +55,7 @@ module _ (z : List ℕ) (l : length z ≡ 256) (payments euros : ℕ) where
       let first = euros-in e p q in
       let wide : length (between 20 35 with-euros) ≡ 15 = between-long 20 35 with-euros (omega (arith, with-long)) in
       let here : xs ≡ digits 15 payments =
-          v ∙ ap₂ (λ (s : Span) (xs : List ℕ). digits (length (between (s .start) (s .end) xs)) payments) u first ∙ ap (λ (w : ℕ). digits w payments) wide in
+      v ∙ ap₂ (λ (s : Span) (xs : List ℕ). digits (length (between (s .start) (s .end) xs)) payments) u first ∙ ap (λ (w : ℕ). digits w payments) wide in
       ap₂ (λ (s : Span) (ys : List ℕ). backAs (s .start) (s .end) xs ys) u first
       ∙ ap (λ (xs : List ℕ). backAs 20 35 xs with-euros) here
       ∙ put-part 20 35 (digits 15 payments) with-euros (omega arith) (digits-length 15 payments)

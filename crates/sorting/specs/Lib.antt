@@ -10,3 +10,4 @@ pub mod Counting
 pub mod Outcome
 pub mod Whole
 pub mod Answers
+pub mod Goes

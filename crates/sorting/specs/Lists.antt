@@ -85,6 +85,16 @@ module _ (rule : List ℕ → ℕ) where
   kept-all [] h = refl
   kept-all (t ∷ ts) h = front-kept t ts (h 0 (omega arith)) .0 ∙ ap (λ (l : List (List ℕ)). t ∷ l) (kept-all ts (λ k l. h (suc k) (omega arith)))
 
+  -- and where none is returned
+  pub kept-whole : (ts : List (List ℕ)) → length (returned rule ts) ≡ 0 → kept rule ts ≡ ts
+  kept-whole [] e = refl
+  kept-whole (t ∷ ts) e = go (eqb (rule t) 0) e (kept-whole ts)
+    where
+      go : (x : Bool) → length (cond x (returned rule ts) (t ∷ returned rule ts)) ≡ 0 → (length (returned rule ts) ≡ 0 → kept rule ts ≡ ts)
+          → cond x (t ∷ kept rule ts) (kept rule ts) ≡ t ∷ ts
+      go true e h = ap (λ (l : List (List ℕ)). t ∷ l) (h e)
+      go false e h = absurd (omega arith)
+
   -- records, and records behind them
   pub kept-append : (ts us : List (List ℕ)) → kept rule (ts ++ us) ≡ kept rule ts ++ kept rule us
   kept-append [] us = refl

@@ -29,14 +29,14 @@ abbrev pub shares : ℕ → ℕ → Shares
 shares kept returned = record { kept = kept; returned = returned }
 
 abbrev pub sortedAs : ℕ → ℕ → ℕ → Shares → Shares → Sorted
-sortedAs number rec changes payments euros =
-    record { number = number; rec = rec; changes = changes; payments = payments; euros = euros }
+sortedAs number rec notes payments euros =
+    record { number = number; rec = rec; notes = notes; payments = payments; euros = euros }
 
 -- "The answer adds counts and euros, kept and returned (0 when refused)"
 abbrev pub unsorted : ℕ → ℕ → Sorted
 unsorted number rec = sortedAs number rec 0 (shares 0 0) (shares 0 0)
 
--- those of a file that goes on, and how many characters of the kept file are changed
+-- those of a file that goes on, and how many notes the kept file has
 abbrev pub payments : ℕ → List ℕ → List ℕ → List ℕ → Shares
 payments page file transfer cheque =
     shares (length (keptIn page file transfer cheque)) (length (returnedIn page file transfer cheque))

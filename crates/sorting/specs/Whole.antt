@@ -68,6 +68,15 @@ module _ (file : List ℕ) (n : ℕ) (e : structureOf file ≡ Fits n) where
         (ap (λ (v : Verdict). v .number)
         (told-sound page file transfer cheque n (euroSum file n) (centSum file n) (contentOf page file n (euroSum file n) transfer cheque) e refl refl refl z))
 
+    -- where all are kept and Z is right, the kept file is the file
+    pub kept-same : keptIn page file transfer cheque ≡ tRecords file → ZRight zSlot (length (tRecords file)) (sumOf euros (tRecords file))
+        → keptFile page file transfer cheque ≡ file
+    unfolding keptFile
+    kept-same all r =
+        ap (λ (ts : List (List ℕ)). fileOf (slotAt file 0) ts (freshZ zSlot (length ts) (sumOf euros ts))) all
+        ∙ ap (fileOf (slotAt file 0) (tRecords file)) (fresh-same zSlot (length (tRecords file)) (sumOf euros (tRecords file)) (lengths file n e .z-size) r)
+        ∙ sym (file-is file n e)
+
     module _ (s : Keeps (slotAt file 0) (tRecords file) zSlot (lengths file n e) page transfer cheque) where
       t-holds : (k : ℕ) → k < n → (rule : ℕ) → 20 ≤ rule → rule < 36 → tFault page transfer cheque (keyOf (slotAt file 1)) (getD (tRecords file) k []) rule ≡ 0
       t-holds k l rule a b =
@@ -96,12 +105,7 @@ module _ (file : List ℕ) (n : ℕ) (e : structureOf file ≡ Fits n) where
           (omega (arith, counts-add (ruleIn page file transfer cheque) (tRecords file), ap length all-kept))
 
       pub kept-is-file : keptFile page file transfer cheque ≡ file
-      unfolding keptFile
-      kept-is-file =
-          ap (λ (ts : List (List ℕ)). fileOf (slotAt file 0) ts (freshZ zSlot (length ts) (sumOf euros ts))) all-kept
-          ∙ ap (fileOf (slotAt file 0) (tRecords file))
-          (fresh-same zSlot (length (tRecords file)) (sumOf euros (tRecords file)) (lengths file n e .z-size) (z-right zSlot _ _ (s .z-rules)))
-          ∙ sym (file-is file n e)
+      kept-is-file = kept-same all-kept (z-right zSlot (length (tRecords file)) (sumOf euros (tRecords file)) (s .z-rules))
 
       pub goes-whole : {changes sum : ℕ} → changes ≡ length (notesOf page file) → sum ≡ euroSum file n
           → sortedAs 0 0 changes (shares n 0) (shares sum 0) ≡ goesOn page file transfer cheque

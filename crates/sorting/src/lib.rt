@@ -23,17 +23,18 @@ pub struct Shares {
     pub returned: u64,
 }
 
-// Number 0, record 0, how many characters are changed in what goes on, and the payments and whole euros; or the number of
-// a refusal, its record, and zeros.
+// Number 0, record 0, how many notes there are of what goes on, and the payments and whole euros; or the number of a
+// refusal, its record, and zeros.
+#[repr(C)]
 pub struct Sorted {
     pub number: usize,
     pub rec: usize,
-    pub changes: usize,
+    pub notes: usize,
     pub payments: Shares,
     pub euros: Shares,
 }
 
-fn refusal(number: usize, rec: usize) -> Sorted
+pub fn refusal(number: usize, rec: usize) -> Sorted
     ensures { λ r. ⌜ r ≡ unsorted number rec ⌝ }
 {
     let none = Shares {
@@ -43,7 +44,7 @@ fn refusal(number: usize, rec: usize) -> Sorted
     Sorted {
         number,
         rec,
-        changes: 0,
+        notes: 0,
         payments: none,
         euros: none,
     }
@@ -149,7 +150,7 @@ fn going_on(kept: Figures, n: usize, euros: u64) -> Sorted
     Sorted {
         number: 0,
         rec: 0,
-        changes: kept.changes,
+        notes: kept.changes,
         payments,
         euros,
     }
