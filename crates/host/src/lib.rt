@@ -4,9 +4,11 @@ use prepare::Prepared;
 use reader::Read;
 use reader::Reader;
 use restore::Restored;
+use sorting::Sorted;
 ghost use Rattle.judge.specs.Verdict.{JudgedAs};
 ghost use Rattle.reader.specs.State.{NewAs, FedAs, EndedAs};
 ghost use Rattle.prepare.specs.Prepared.{PreparedAs};
+ghost use Rattle.prepare.specs.Default.{DefaultAs};
 ghost use Rattle.restore.specs.Restored.{RestoredAs};
 ghost use Rattle.host.specs.Answers.{CodedAs, PlacedAs};
 
@@ -68,10 +70,25 @@ pub extern "C" fn desk_prepare(
     cheque: &[u8],
     out: &mut [u8],
     notes: &mut [u32],
+    returned: &mut [u32],
+) -> Sorted
+    ensures { λ r. ⌜ DefaultAs page (now (file .entry)) (now (transfer .entry)) (now (cheque .entry)) (now (out .entry)) (now (notes .entry)) (now (returned .entry)) r (now (out .exit)) (now (notes .exit)) (now (returned .exit)) ⌝ }
+{
+    prepare::prepare(page, file, transfer, cheque, out, notes, returned)
+}
+
+#[no_mangle]
+pub extern "C" fn desk_prepare_strict(
+    page: u32,
+    file: &[u8],
+    transfer: &[u8],
+    cheque: &[u8],
+    out: &mut [u8],
+    notes: &mut [u32],
 ) -> Prepared
     ensures { λ r. ⌜ PreparedAs page (now (file .entry)) (now (transfer .entry)) (now (cheque .entry)) (now (out .entry)) (now (notes .entry)) r (now (out .exit)) (now (notes .exit)) ⌝ }
 {
-    prepare::prepare(page, file, transfer, cheque, out, notes)
+    prepare::strict(page, file, transfer, cheque, out, notes)
 }
 
 #[no_mangle]
