@@ -2,9 +2,9 @@
    libhost.a has them for x86-64 (`rt staticlib host` writes target/staticlib/libhost.a).
 
    Lent memory passes as a pointer and a count of elements. A pointer is never null; where its count is 0, nothing is
-   read or written through it. What is lent for writing (out, notes) overlaps nothing else that is lent. Any bytes, any
-   country lists, any room and any page number may be handed in: every call ends with an answer or a numbered refusal, and
-   a refused call changes no byte that it was lent.
+   read or written through it. What is lent for writing (out, notes, returned) overlaps nothing else that is lent. Any
+   bytes, any country lists, any room and any page number may be handed in: every call ends with an answer or a numbered
+   refusal, and a refused call changes no byte that it was lent.
 
    The page says at which codes the office writes the four German characters. Restore needs the page and the country lists
    that prepare had; with others it may refuse the pair. So store the page with the forwarded file and its notes. */
@@ -60,17 +60,21 @@ enum desk_number {
     DESK_Z_FORM = 40,              /* a non-digit in Z3 or Z4, or Z5 not all spaces */
     DESK_Z4 = 41,                  /* Z4 is not the number of T records */
     DESK_Z3 = 42,                  /* Z3 is not the sum of all T14a */
+    DESK_ALL_RETURNED = 43,        /* every payment would be returned */
     DESK_TAKEN = 50,               /* the file number is a taken one */
-    DESK_OUTPUT_ROOM = 60,         /* output room shorter than the file */
-    DESK_NOTE_ROOM = 61,           /* more changes than note places */
+    DESK_OUTPUT_ROOM = 60,         /* output room shorter than the file that goes on or is restored */
+    DESK_NOTE_ROOM = 61,           /* more changes in the file that goes on than note places */
+    DESK_RETURN_ROOM = 63,         /* returned list has fewer places than returned payments */
     DESK_NO_SUCH_PAIR = 70         /* restore: no sound file yields this pair */
 };
 
-/* The judge's answer has grown (at), and three calls have got the page as their first argument: a host that was built with
-   an older header is to be compiled anew. */
+/* A host that was built with an older header is to be compiled anew: answers have grown, so that one would be written
+   beyond its room, and calls have got more arguments. What desk_prepare was before, desk_prepare_strict is now: a host whose
+   files go on as a whole or not at all asks for it by that name. */
 typedef struct { uint64_t number, record, at, payments, euros, cents; } desk_judgement;
 typedef struct { uint64_t number, record, at, payments, euros, cents, changes; } desk_answer;
-typedef struct { uint64_t number, record, notes; } desk_prepared;
+typedef struct { uint64_t number, record, notes, kept, returned, kept_euros, returned_euros; } desk_prepared;
+typedef struct { uint64_t number, record, notes; } desk_strict;
 typedef struct { uint64_t number, record; } desk_restored;
 typedef struct { uint64_t start, length; } desk_part;
 
@@ -103,7 +107,7 @@ desk_judgement desk_judge_full(uint32_t page, const uint8_t *file, size_t n,
    A call changes no reader in place: it gives back the changed one, with which the host goes on.
    The page is named at the start, the country lists are lent with each cut, and the taken numbers at the end. A payment is
    judged by the lists of the cut that holds its last byte. Where all cuts came with the same lists, the answer is that of
-   desk_judge_full over all the bytes; changes is how many characters desk_prepare would change, and 0 where the file is
+   desk_judge_full over all the bytes; changes is how many characters prepare would change, and 0 where the file is
    refused. So without a byte it is 2 at record 0. Before the end there is no answer, for a later byte may change it.
    The first end decides. The reader that it gave back answers the same when it is asked again, whatever numbers are lent,
    and cuts that are handed to it change nothing. A reader of zeros is a new one of page 0. One of
@@ -113,16 +117,38 @@ desk_reader desk_reader_feed(desk_reader reader, const uint8_t *cut, size_t n,
                              const uint8_t *transfer, size_t nt, const uint8_t *cheque, size_t nc);
 desk_read desk_reader_end(desk_reader reader, const uint64_t *taken, size_t taken_n);
 
-/* Prepares a file for forwarding. 7 first, then soundness, 60 and 61. Number 0: out begins with the forwarded file and
-   notes with a note for each changed character, by rising place: place in the file * 256 + original byte; the rest of both
-   keeps its values; the answer's notes is how many there are. Refused: the number, and notes 0. The record is that of an
-   unsound file's first broken rule, else 0. */
+/* Prepares the good payments of a file for forwarding, and names the others. Where a file breaks rules of 20 to 35 alone,
+   the payments that break one are returned and the rest goes on, as the kept file: Q, the kept T records in their order,
+   and Z with fresh Z3 and Z4. It is sound and has 512 + 768 * kept bytes. Where nothing is returned it is the very file.
+   Number 0: out begins with the forwarded kept file, and notes with a note for each changed character, by rising place:
+   place in the kept file * 256 + original byte. returned begins with a number for each returned payment, rising: its
+   record in the submitted file * 100 + the first rule that it breaks. The rest of all three keeps its values. The answer
+   tells how many notes there are, and how many payments and whole euros are kept and returned: they add up to the
+   submitted Z4 and Z3.
+   Refused: the number, its record, and five zeros. In this order: 7; structure; the rules of Q; 33 for the first payment
+   with a non-digit in T14a or T14b, whatever else is broken there or before; 40 to 42, of the submitted file; 43; 60 and
+   61, measured on the kept file; 63. The record is 0 for 7 and from 43 on. So it may tell another rule than the judge does.
+   What to know:
+   - Rule 21 compares with record 1, also where that one is returned. Where record 1 alone has a mistyped account, all in
+     digits, it is kept and every other payment is returned.
+   - The kept file has the submitted file's number (Q4, Q6, Q7): returned payments, once corrected, need another one.
+   - In which field a returned payment breaks its rule is told by desk_judge_full of a small file: the first 1,024 bytes of
+     out, which are a sound Q and T, then that payment, then the submitted Z. There it is record 2. */
 desk_prepared desk_prepare(uint32_t page, const uint8_t *file, size_t n,
                            const uint8_t *transfer, size_t nt, const uint8_t *cheque, size_t nc,
-                           uint8_t *out, size_t out_n, uint32_t *notes, size_t notes_n);
+                           uint8_t *out, size_t out_n, uint32_t *notes, size_t notes_n,
+                           uint32_t *returned, size_t returned_n);
 
-/* Restores the file that was prepared from the forwarded file and all of its notes. 7 first, then 60, then 70. Number 0:
-   out begins with the original, and the rest keeps its bytes. The record is always 0. */
+/* Prepares a sound file as a whole: one broken rule, and nothing goes on. 7 first, then soundness, 60 and 61. Number 0: out
+   begins with the forwarded file and notes with its notes, as above; the rest of both keeps its values. Refused: the
+   number, and notes 0. The record is that of an unsound file's first broken rule, else 0. */
+desk_strict desk_prepare_strict(uint32_t page, const uint8_t *file, size_t n,
+                                const uint8_t *transfer, size_t nt, const uint8_t *cheque, size_t nc,
+                                uint8_t *out, size_t out_n, uint32_t *notes, size_t notes_n);
+
+/* Restores the file that went on, from the forwarded file and all of its notes. After desk_prepare that is the kept file:
+   returned payments are in the submitted file alone, so keep it. 7 first, then 60, then 70. Number 0: out begins with the
+   original, and the rest keeps its bytes. The record is always 0. */
 desk_restored desk_restore(uint32_t page, const uint8_t *forwarded, size_t n, const uint32_t *notes, size_t notes_n,
                            const uint8_t *transfer, size_t nt, const uint8_t *cheque, size_t nc,
                            uint8_t *out, size_t out_n);

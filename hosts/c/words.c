@@ -40,9 +40,11 @@ static const struct { uint64_t number; const char *words; } refusals[] = {
     {40, "a non-digit in Z3 or Z4, or Z5 not all spaces"},
     {41, "Z4 is not the number of T records"},
     {42, "Z3 is not the sum of all T14a (whole euros, no cents)"},
+    {43, "prepare: every payment would be returned"},
     {50, "judge: the file number (Q4, Q6, Q7) is a taken one"},
-    {60, "prepare, restore: output room shorter than the file"},
-    {61, "prepare: more changes than note places"},
+    {60, "prepare, restore: output room shorter than the file that goes on or is restored"},
+    {61, "prepare: more changes in the file that goes on than note places"},
+    {63, "prepare: returned list has fewer places than returned payments"},
     {70, "restore: no sound file yields this pair"},
 };
 

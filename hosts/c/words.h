@@ -23,7 +23,7 @@ char desk_kind(uint64_t number);
 const desk_columns *desk_columns_at(char kind, uint64_t offset);
 
 /* A refusal in one line, without a line end: "rule 15 at record 0, Q9, column 178: Q9 is not N". A number that is no rule
-   of a file (7, and 50 to 70) has no record there. Only desk_judge_full and desk_reader_end tell at; with 0 in its place no
+   of a file (7, and 43 to 70) has no record there. Only desk_judge_full and desk_reader_end tell at; with 0 in its place no
    field is told. */
 enum { DESK_LINE = 256 };
 void desk_refusal_line(char line[DESK_LINE], uint64_t number, uint64_t record, uint64_t at);

@@ -65,7 +65,18 @@ pub struct Columns {
     pub last: u64,
 }
 
-/// A note of a changed character: its place in the file, and the byte that was there.
+/// What `prepare` left: how many notes, and the payments and their whole euros, kept and returned, which add up to the
+/// submitted Z4 and Z3.
+#[derive(Clone, Copy, Debug, PartialEq, Eq)]
+pub struct Prepared {
+    pub notes: usize,
+    pub kept: usize,
+    pub returned: usize,
+    pub kept_euros: u64,
+    pub returned_euros: u64,
+}
+
+/// A note of a changed character: its place in the file that went on, and the byte that was there.
 #[derive(Clone, Copy, Debug, PartialEq, Eq)]
 pub struct Note {
     pub place: usize,
@@ -124,18 +135,29 @@ pub fn judge(page: Page, file: &[u8], lists: Lists, taken: &[u64]) -> Result<Jud
     judgement(judged)
 }
 
-/// Prepares a file for forwarding, and answers how many notes there are. `out` then begins with the forwarded file, and
-/// `notes` with a note for each changed character, by rising place; the rest of both keeps its values. Soundness is asked
-/// first, then 60, then 61.
+/// Prepares the good payments of a file for forwarding, and names the others. Where a file breaks rules of 20 to 35 alone,
+/// the payments that break one are returned and the rest goes on, as the kept file: Q, the kept T records in their order,
+/// and Z with fresh Z3 and Z4. Where nothing is returned it is the very file.
+///
+/// `out` then begins with the forwarded kept file, which is `Prepared::bytes` long, and `notes` with a note for each changed
+/// character, by rising place in the kept file. `returned` begins with a number for each returned payment, rising, of which
+/// `Refusal::of_returned` tells record and rule. The rest of all three keeps its values.
+///
+/// Asked in this order: structure; the rules of Q; 33 for the first payment with a non-digit in T14a or T14b, whatever else
+/// is broken there or before; 40 to 42, of the submitted file; 43; 60 and 61, measured on the kept file; 63. So it may tell
+/// another rule than `judge` does, which stays strict. hosts/c/desk.h has what to know besides: of rule 21, of the kept
+/// file's number, and of the field in which a returned payment breaks its rule.
 pub fn prepare(
     page: Page,
     file: &[u8],
     lists: Lists,
     out: &mut [u8],
     notes: &mut [u32],
-) -> Result<usize, Refusal> {
+    returned: &mut [u32],
+) -> Result<Prepared, Refusal> {
     let Lists { transfer, cheque } = lists;
-    // SAFETY: each pointer and count is one slice's; out and notes are borrowed for writing, so they overlap nothing.
+    // SAFETY: each pointer and count is one slice's; out, notes and returned are borrowed for writing, so they overlap
+    // nothing.
     let prepared = unsafe {
         c::desk_prepare(
             page as u32,
@@ -149,14 +171,49 @@ pub fn prepare(
             out.len(),
             notes.as_mut_ptr(),
             notes.len(),
+            returned.as_mut_ptr(),
+            returned.len(),
         )
     };
-    let c::Prepared { number, record, notes } = prepared;
+    let c::Prepared { number, record, notes, kept, returned, kept_euros, returned_euros } = prepared;
+    let [notes, kept, returned] = [notes, kept, returned].map(|count| count as usize);
+    answer(Refusal { number, record, at: 0 }, Prepared { notes, kept, returned, kept_euros, returned_euros })
+}
+
+/// Prepares a sound file as a whole, and answers how many notes there are: one broken rule, and nothing goes on. `out` then
+/// begins with the forwarded file and `notes` with its notes; the rest of both keeps its values. Soundness is asked first,
+/// then 60, then 61. This is what `prepare` was before.
+pub fn prepare_strict(
+    page: Page,
+    file: &[u8],
+    lists: Lists,
+    out: &mut [u8],
+    notes: &mut [u32],
+) -> Result<usize, Refusal> {
+    let Lists { transfer, cheque } = lists;
+    // SAFETY: each pointer and count is one slice's; out and notes are borrowed for writing, so they overlap nothing.
+    let prepared = unsafe {
+        c::desk_prepare_strict(
+            page as u32,
+            file.as_ptr(),
+            file.len(),
+            transfer.as_ptr(),
+            transfer.len(),
+            cheque.as_ptr(),
+            cheque.len(),
+            out.as_mut_ptr(),
+            out.len(),
+            notes.as_mut_ptr(),
+            notes.len(),
+        )
+    };
+    let c::Strict { number, record, notes } = prepared;
     answer(Refusal { number, record, at: 0 }, notes as usize)
 }
 
-/// Restores the file that was prepared, from the forwarded file and all of its notes: `out` then begins with it, and the
-/// rest keeps its bytes. 60 is asked first, then 70.
+/// Restores the file that went on, from the forwarded file and all of its notes: `out` then begins with it, and the rest
+/// keeps its bytes. After `prepare` that is the kept file: returned payments are in the submitted file alone, so keep it.
+/// 60 is asked first, then 70.
 pub fn restore(page: Page, forwarded: &[u8], notes: &[u32], lists: Lists, out: &mut [u8]) -> Result<(), Refusal> {
     let Lists { transfer, cheque } = lists;
     // SAFETY: each pointer and count is one slice's; out is borrowed for writing, so it overlaps nothing.
@@ -289,6 +346,13 @@ impl fmt::Display for Field {
     }
 }
 
+impl Prepared {
+    /// The bytes of the forwarded kept file: Q, the kept payments and Z.
+    pub fn bytes(&self) -> usize {
+        256 + 768 * self.kept + 256
+    }
+}
+
 impl From<u32> for Note {
     fn from(note: u32) -> Note {
         Note { place: (note / 256) as usize, original: (note % 256) as u8 }
@@ -296,6 +360,11 @@ impl From<u32> for Note {
 }
 
 impl Refusal {
+    /// What a number of `prepare`'s returned list says: the payment's record, and the first rule that it breaks.
+    pub fn of_returned(number: u32) -> Refusal {
+        Refusal { number: u64::from(number % 100), record: u64::from(number / 100), at: 0 }
+    }
+
     /// When the rule is broken, or why else the call is refused.
     pub fn words(&self) -> &'static str {
         let row = WORDS.iter().find(|row| row.0 == self.number);
@@ -318,7 +387,7 @@ impl Refusal {
     }
 }
 
-/// In one line: `rule 15 at record 0, Q9, column 178: Q9 is not N`. A number that is no rule of a file (7, and 50 to 70)
+/// In one line: `rule 15 at record 0, Q9, column 178: Q9 is not N`. A number that is no rule of a file (7, and 43 to 70)
 /// has no record there.
 impl fmt::Display for Refusal {
     fn fmt(&self, f: &mut fmt::Formatter) -> fmt::Result {
@@ -350,7 +419,7 @@ impl fmt::Display for Columns {
 impl error::Error for Refusal {}
 
 /// The refusals, in the words of README.md.
-const WORDS: [(u64, &str); 36] = [
+const WORDS: [(u64, &str); 38] = [
     (1, "file longer than 7,679,744 bytes (9,999 payments)"),
     (2, "file ends inside a record, or where one is due"),
     (3, "length digits wrong for the letter"),
@@ -383,9 +452,11 @@ const WORDS: [(u64, &str); 36] = [
     (40, "a non-digit in Z3 or Z4, or Z5 not all spaces"),
     (41, "Z4 is not the number of T records"),
     (42, "Z3 is not the sum of all T14a (whole euros, no cents)"),
+    (43, "prepare: every payment would be returned"),
     (50, "judge: the file number (Q4, Q6, Q7) is a taken one"),
-    (60, "prepare, restore: output room shorter than the file"),
-    (61, "prepare: more changes than note places"),
+    (60, "prepare, restore: output room shorter than the file that goes on or is restored"),
+    (61, "prepare: more changes in the file that goes on than note places"),
+    (63, "prepare: returned list has fewer places than returned payments"),
     (70, "restore: no sound file yields this pair"),
 ];
 
@@ -486,6 +557,17 @@ mod c {
         pub number: u64,
         pub record: u64,
         pub notes: u64,
+        pub kept: u64,
+        pub returned: u64,
+        pub kept_euros: u64,
+        pub returned_euros: u64,
+    }
+
+    #[repr(C)]
+    pub struct Strict {
+        pub number: u64,
+        pub record: u64,
+        pub notes: u64,
     }
 
     #[repr(C)]
@@ -549,7 +631,23 @@ mod c {
             out_n: usize,
             notes: *mut u32,
             notes_n: usize,
+            returned: *mut u32,
+            returned_n: usize,
         ) -> Prepared;
+
+        pub fn desk_prepare_strict(
+            page: u32,
+            file: *const u8,
+            n: usize,
+            transfer: *const u8,
+            nt: usize,
+            cheque: *const u8,
+            nc: usize,
+            out: *mut u8,
+            out_n: usize,
+            notes: *mut u32,
+            notes_n: usize,
+        ) -> Strict;
 
         pub fn desk_restore(
             page: u32,
