@@ -1,28 +1,38 @@
-/* A host: judges a file, prepares it, tells each change with its field and the characters before and after, shows that
-   restore gives the file back, and writes the forwarded file and its notes. Or it judges a file that arrives on standard
-   input, and tells how many characters would be changed.
+/* A host: prepares a file and tells what it finds. Payments that break a rule come back, each with its amount, its payee
+   and the field; the others go on. Each change is told with its field and the characters before and after, restore is
+   shown to give back what goes on, and the forwarded file and its notes are written. Or it judges a file that arrives on
+   standard input, and tells how many characters would be changed.
 
-       example [--page 0|1] FILE [FORWARDED NOTES]
+       example [--page 0|1] [--strict] FILE [FORWARDED NOTES]
        example [--page 0|1] -
 
    The page says at which codes the file has the four German characters: 0 is DIN 66003, 1 is ISO 8859-1. Where none is
    named it is 1. It is told with the verdict: store it with the pair, for restore needs the page and the country lists
    that prepare had. Any other word that begins with - is taken for an option; a file of such a name is ./-name.
 
+   With --strict a file goes on as a whole or not at all. Without it what goes on is the kept file: Q, the payments that
+   break no rule, and Z with their totals. Changes are told by their record and place there, returned payments by their
+   record in FILE. Those stay in FILE alone, so keep it; and they need a new file number, for the kept file has that of FILE.
+   A payee is told as the page reads it, in UTF-8. What the page has no character for, and what a terminal would obey, is
+   told as U+FFFD.
+
    Standard input may be of any length: it goes through a reader in cuts, and no more than one cut is held. It can be
-   judged and not prepared, for prepare takes a whole file.
+   judged and not prepared, for prepare takes a whole file; the judge is always strict.
 
    It writes over nothing, and nothing that fails leaves anything behind:
    1. FORWARDED and NOTES are two new files: what is there already is never replaced, FILE least of all.
-   2. FILE is read, judged, prepared and restored in memory, and what is restored has to be the very file.
-   3. All this is told. Where it cannot be printed nothing is written: no file goes on with changes that nobody saw.
+   2. FILE is read, judged, prepared and restored in memory. What is restored has to be the very file, or where payments
+      come back the kept file, put together from FILE and the list.
+   3. All this is told. Where it cannot be printed nothing is written: no file goes on with changes, or without
+      payments, that nobody saw.
    4. Notes and forwarded file are written, down to the disk, each to a new file beside its target: the target's name
       with .new behind it. Where such a file is there already, as a killed run leaves it, it stays and the run ends.
    5. When both are complete they are renamed to their targets, the notes first: no forwarded file is without them.
    Where a step fails, what it made is removed.
 
-   In the notes file each note has four bytes, little-endian. Status 0: sound, and all is done; 1: refused, or not
-   restored; 2: used wrongly, or something could not be read or written. */
+   In the notes file each note has four bytes, little-endian. Status 0: the whole file goes on, and all is done; 1: nothing
+   goes on, for it is refused or not restored; 2: used wrongly, or something could not be read or written; 3: all is done,
+   but some payments come back. */
 #define _POSIX_C_SOURCE 200809L
 #include "desk.h"
 #include "words.h"
@@ -49,8 +59,13 @@ static const char cheque[] = "ARBOBRCLCRDOSVECGTGBHNCACOMXNIPAPYPEPRUYUSVE";
 static const uint64_t none_taken[1];
 
 enum { MOST = 7679744, CUT = 64 * 1024 }; /* bytes of the longest file, and of a cut of standard input */
-static uint8_t file[MOST + 1], forwarded[MOST + 1], restored[MOST + 1];
-static uint32_t notes[MOST];
+enum { Q = 256, T = 768, Z = 256, PAYMENTS = (MOST - Q - Z) / T }; /* bytes of the records; payments of the longest file */
+enum { T10B = 210, LINE = 35, T14A = 458, T14B = 472, Z3 = 5, Z4 = 20, Z5 = 35 }; /* where fields begin; a line of T10b */
+static uint8_t file[MOST + 1], forwarded[MOST + 1], restored[MOST + 1], kept[MOST + 1];
+static uint32_t notes[MOST], returned[PAYMENTS];
+
+/* The status to end with. */
+enum { ALL_GOES_ON = 0, NOTHING_GOES_ON = 1, FAILED = 2, SOME_COME_BACK = 3 };
 
 /* Says what is wrong with a path; always false, for the caller to hand on. */
 static bool wrong(const char *path, const char *why)
@@ -65,32 +80,58 @@ static const struct { const char *word, *name; } pages[] = {
     [DESK_ISO_8859_1] = {"1", "page 1 (ISO 8859-1)"},
 };
 
-/* What is asked for: the page, and by the other words the paths, or - alone for standard input. */
+/* What is asked for: the page, whether the file is to go on as a whole, and by the other words the paths, or - alone for
+   standard input. */
 typedef struct {
     uint32_t page;
+    bool is_strict;
     int count;
     char **words;
 } request;
 
-/* Takes --page and the page, where the words begin with them. */
+/* Takes the first word, where there is one and it is this one. */
+static bool take(request *asked, const char *word)
+{
+    if (asked->count < 1 || strcmp(asked->words[0], word) != 0)
+        return false;
+    asked->count--;
+    asked->words++;
+    return true;
+}
+
+/* Takes the page behind --page. */
 static bool take_page(request *asked)
 {
-    if (asked->count < 1 || strcmp(asked->words[0], "--page") != 0)
-        return true;
-    const char *word = asked->count > 1 ? asked->words[1] : NULL;
-    for (uint32_t page = 0; word && page < sizeof pages / sizeof pages[0]; page++)
-        if (strcmp(word, pages[page].word) == 0) {
-            *asked = (request){page, asked->count - 2, asked->words + 2};
+    for (uint32_t page = 0; page < sizeof pages / sizeof pages[0]; page++)
+        if (take(asked, pages[page].word)) {
+            asked->page = page;
             return true;
         }
+    const char *word = asked->count > 0 ? asked->words[0] : NULL;
     fprintf(stderr, "%s%s: there is %s and %s\n", word ? "page " : "--page names no page", word ? word : "",
             pages[DESK_DIN_66003].name, pages[DESK_ISO_8859_1].name);
     return false;
 }
 
+/* Takes the options, in any order and each once. */
+static bool take_options(request *asked)
+{
+    for (bool names_page = false;;) {
+        if (!asked->is_strict && take(asked, "--strict")) {
+            asked->is_strict = true;
+        } else if (!names_page && take(asked, "--page")) {
+            names_page = true;
+            if (!take_page(asked))
+                return false;
+        } else {
+            return true;
+        }
+    }
+}
+
 static bool is_input(const char *word) { return strcmp(word, "-") == 0; }
 
-/* Whether each word can be what it stands for: standard input stands alone, and behind the page there is no option. */
+/* Whether each word can be what it stands for: standard input stands alone, and behind the options there is no other. */
 static bool are_in_place(const request *asked)
 {
     int first = asked->count > 0 && is_input(asked->words[0]) ? 1 : 0;
@@ -106,14 +147,14 @@ static bool are_in_place(const request *asked)
     return true;
 }
 
-/* Whether the words can be understood: one path or three, or - alone, behind the page, if any. */
+/* Whether the words can be understood: one path or three, or - alone, behind the options, if any. */
 static bool understand(request *asked)
 {
-    if (!take_page(asked))
+    if (!take_options(asked))
         return false;
     if (are_in_place(asked) && (asked->count == 1 || asked->count == 3))
         return true;
-    fprintf(stderr, "usage: example [--page 0|1] FILE [FORWARDED NOTES], or example [--page 0|1] -\n");
+    fprintf(stderr, "usage: example [--page 0|1] [--strict] FILE [FORWARDED NOTES], or example [--page 0|1] -\n");
     return false;
 }
 
@@ -126,7 +167,7 @@ static char *joined(const char *text, size_t length, const char *end)
     char *whole = malloc(length + strlen(end) + 1);
     if (!whole) {
         fprintf(stderr, "no memory left\n");
-        exit(2);
+        exit(FAILED);
     }
     memcpy(whole, text, length);
     strcpy(whole + length, end);
@@ -249,12 +290,13 @@ static bool write_both(const char *const paths[PATHS], size_t n, uint64_t count)
     return true;
 }
 
-/* Tells the change at a place of the file, and the byte that was there. Changes are in Q and in T records alone. */
+/* Tells the change at a place of the file that goes on, and the byte that was there. Changes are in Q and in T records
+   alone. */
 static void tell_change(uint64_t place, unsigned original)
 {
-    bool in_q = place < 256;
-    uint64_t record = in_q ? 0 : (place - 256) / 768 + 1;
-    const desk_columns *found = desk_columns_at(in_q ? 'Q' : 'T', in_q ? place : (place - 256) % 768);
+    bool in_q = place < Q;
+    uint64_t record = in_q ? 0 : (place - Q) / T + 1;
+    const desk_columns *found = desk_columns_at(in_q ? 'Q' : 'T', in_q ? place : (place - Q) % T);
     printf("record %" PRIu64 ", %s, place %" PRIu64 ": hex %02X becomes '%c'\n", record, found ? found->field : "?", place,
            original, forwarded[place]);
 }
@@ -266,39 +308,182 @@ static void tell_changes(uint64_t count)
     printf("%" PRIu64 " characters changed\n", count);
 }
 
+/* A character of a text by its code in ISO 8859-1; 0 where the page has none. */
+static uint8_t character(uint32_t page, uint8_t byte)
+{
+    static const char din_66003[] = "@[\\]{|}~", iso_8859_1[] = "\xA7\xC4\xD6\xDC\xE4\xF6\xFC\xDF";
+    if (page != DESK_DIN_66003)
+        return byte;
+    const char *own = memchr(din_66003, byte, sizeof din_66003 - 1);
+    if (own)
+        return (uint8_t)iso_8859_1[own - din_66003];
+    return byte < 0x80 ? byte : 0;
+}
+
+/* Tells a character in UTF-8, and a control character as U+FFFD. */
+static void tell_character(uint8_t code)
+{
+    if (code < 0x20 || (code >= 0x7F && code < 0xA0))
+        printf("\xEF\xBF\xBD");
+    else if (code < 0x80)
+        printf("%c", code);
+    else
+        printf("%c%c", 0xC0 | code >> 6, 0x80 | (code & 0x3F));
+}
+
+/* Tells a text without the spaces behind it. */
+static void tell_text(uint32_t page, const uint8_t *text, size_t n)
+{
+    while (n > 0 && text[n - 1] == ' ')
+        n--;
+    printf("\"");
+    for (size_t i = 0; i < n; i++)
+        tell_character(character(page, text[i]));
+    printf("\"");
+}
+
+/* The digits from one place of a record up to another as a number. Where it is asked for, the desk has found digits. */
+static uint64_t number_at(const uint8_t *record, size_t place, size_t end)
+{
+    uint64_t number = 0;
+    for (; place < end; place++)
+        number = number * 10 + (uint64_t)(record[place] - '0');
+    return number;
+}
+
+/* Tells a payment's amount, with the third digit behind the comma where it is not 0. */
+static void tell_amount(const uint8_t *t)
+{
+    uint64_t euros = number_at(t, T14A, T14B), thousandths = number_at(t, T14B, T14B + 3);
+    if (thousandths % 10)
+        printf("%" PRIu64 ",%03" PRIu64 " euros", euros, thousandths);
+    else
+        printf("%" PRIu64 ",%02" PRIu64 " euros", euros, thousandths / 10);
+}
+
+static const uint8_t *payment(uint64_t record) { return file + Q + (record - 1) * T; }
+
+/* Where a payment breaks the rule for which it comes back: what the judge says of it behind a sound Q and a sound payment
+   of the same account. */
+static uint64_t breaks_at(uint32_t page, size_t n, uint64_t record, uint64_t rule)
+{
+    uint8_t small[Q + T + T + Z];
+    memcpy(small, forwarded, Q + T);
+    memcpy(small + Q + T, payment(record), T);
+    memcpy(small + Q + T + T, file + n - Z, Z);
+    desk_judgement judged = desk_judge_full(page, small, sizeof small, LISTS, none_taken, 0);
+    return judged.number == rule ? judged.at : 0;
+}
+
+static void tell_returned(uint32_t page, size_t n, uint64_t record, uint64_t rule)
+{
+    char line[DESK_LINE];
+    printf("record %" PRIu64 " comes back: ", record);
+    tell_amount(payment(record));
+    printf(" to ");
+    tell_text(page, payment(record) + T10B, LINE);
+    desk_refusal_line(line, rule, record, breaks_at(page, n, record, rule));
+    printf("\n    %s\n", line);
+}
+
+static void tell_total(const char *name, uint64_t payments, uint64_t euros)
+{
+    printf("%s: %" PRIu64 " payments, %" PRIu64 " whole euros\n", name, payments, euros);
+}
+
+/* Tells which payments come back, and the totals. */
+static void tell_sorted(uint32_t page, size_t n, const desk_prepared *sent)
+{
+    const uint8_t *z = file + n - Z;
+    printf("not sound on %s: payments that break a rule come back, the others go on\n", pages[page].name);
+    for (uint64_t i = 0; i < sent->returned; i++)
+        tell_returned(page, n, returned[i] / 100, returned[i] % 100);
+    tell_total("kept", sent->kept, sent->kept_euros);
+    tell_total("returned", sent->returned, sent->returned_euros);
+    tell_total("submitted", number_at(z, Z4, Z5), number_at(z, Z3, Z4));
+    puts("the kept file has the submitted file's number; what comes back needs a new one");
+    puts("in the kept file:");
+}
+
 static void tell_sound(uint32_t page, uint64_t payments, uint64_t euros, uint64_t cents)
 {
     printf("sound on %s: %" PRIu64 " payments, %" PRIu64 " euros and %" PRIu64 " cents\n", pages[page].name,
            payments, euros, cents);
 }
 
-static bool refused(uint32_t page, uint64_t number, uint64_t record, uint64_t at)
+static void tell_refused(uint32_t page, uint64_t number, uint64_t record, uint64_t at)
 {
     char line[DESK_LINE];
     desk_refusal_line(line, number, record, at);
     printf("refused on %s: %s\n", pages[page].name, line);
-    return false;
 }
 
-/* Judges, prepares and restores the file in memory, and tells what it finds. Whether there is something to write: a
-   sound file's forwarded file and so many notes, from which the very file was restored. */
-static bool examine(uint32_t page, size_t n, uint64_t *count)
+/* Tells why nothing goes on. Prepare tells no field; the judge does, where it stops at the same rule. Where it stops at an
+   earlier one, that is told too. */
+static void tell_refusal(uint32_t page, const desk_prepared *sent, const desk_judgement *judged)
 {
-    desk_judgement judged = desk_judge_full(page, file, n, LISTS, none_taken, 0);
-    if (judged.number)
-        return refused(page, judged.number, judged.record, judged.at);
-    tell_sound(page, judged.payments, judged.euros, judged.cents);
+    bool is_same = judged->number == sent->number && judged->record == sent->record;
+    tell_refused(page, sent->number, sent->record, is_same ? judged->at : 0);
+    if (judged->number && !is_same) {
+        char line[DESK_LINE];
+        desk_refusal_line(line, judged->number, judged->record, judged->at);
+        printf("first broken: %s\n", line);
+    }
+}
 
-    desk_prepared prepared = desk_prepare(page, file, n, LISTS, forwarded, sizeof forwarded, notes, MOST);
-    if (prepared.number)
-        return refused(page, prepared.number, prepared.record, 0);
-    tell_changes(prepared.notes);
-    *count = prepared.notes;
+/* Prepares the file by the way that is asked for. What the strict way sends is the whole file, as the judge counts it. */
+static desk_prepared prepare(const request *asked, size_t n, const desk_judgement *judged)
+{
+    if (!asked->is_strict)
+        return desk_prepare(asked->page, file, n, LISTS, forwarded, sizeof forwarded, notes, MOST, returned, PAYMENTS);
+    desk_strict sent = desk_prepare_strict(asked->page, file, n, LISTS, forwarded, sizeof forwarded, notes, MOST);
+    return (desk_prepared){sent.number, sent.record, sent.notes, judged->payments, 0, judged->euros, 0};
+}
 
-    desk_restored back = desk_restore(page, forwarded, n, notes, prepared.notes, LISTS, restored, sizeof restored);
-    bool the_very_file = back.number == 0 && memcmp(file, restored, n) == 0;
-    puts(the_very_file ? "restored: the very file" : "not restored");
-    return the_very_file;
+/* Puts the kept file together: the records of FILE that are not in the list, and Z with the figures. Its bytes. */
+static size_t put_together(size_t n, const desk_prepared *sent)
+{
+    char figures[64];
+    uint8_t *end = kept + Q;
+    memcpy(kept, file, Q);
+    for (uint64_t record = 1, i = 0; record <= (n - Q - Z) / T; record++)
+        if (i < sent->returned && returned[i] / 100 == record) {
+            i++;
+        } else {
+            memcpy(end, payment(record), T);
+            end += T;
+        }
+    snprintf(figures, sizeof figures, "%015" PRIu64 "%015" PRIu64, sent->kept_euros, sent->kept);
+    memcpy(end, file + n - Z, Z);
+    memcpy(end + Z3, figures, Z5 - Z3);
+    return (size_t)(end + Z - kept);
+}
+
+/* Judges, prepares and restores the file in memory, and tells what it finds. The status; where something goes on, the
+   forwarded file has so many bytes and notes, and what was restored from it is what goes on. */
+static int examine(const request *asked, size_t n, size_t *bytes, uint64_t *count)
+{
+    desk_judgement judged = desk_judge_full(asked->page, file, n, LISTS, none_taken, 0);
+    desk_prepared sent = prepare(asked, n, &judged);
+    if (sent.number) {
+        tell_refusal(asked->page, &sent, &judged);
+        return NOTHING_GOES_ON;
+    }
+    if (sent.returned)
+        tell_sorted(asked->page, n, &sent);
+    else
+        tell_sound(asked->page, judged.payments, judged.euros, judged.cents);
+    tell_changes(sent.notes);
+    *count = sent.notes;
+    *bytes = put_together(n, &sent);
+
+    desk_restored back = desk_restore(asked->page, forwarded, *bytes, notes, *count, LISTS, restored, sizeof restored);
+    if (back.number || memcmp(kept, restored, *bytes) != 0) {
+        puts("not restored");
+        return NOTHING_GOES_ON;
+    }
+    printf("restored: the very %s\n", sent.returned ? "kept file" : "file");
+    return sent.returned ? SOME_COME_BACK : ALL_GOES_ON;
 }
 
 /* Whether all that was told could be printed. */
@@ -321,16 +506,16 @@ static int work_on_file(const request *asked)
         paths[NEW_FORWARDED] = new_name(asked->words[1]);
         paths[NEW_NOTES] = new_name(asked->words[2]);
     }
-    size_t n = 0;
+    size_t n = 0, bytes = 0;
     uint64_t count = 0;
     if ((writes && !are_new(paths)) || !read_whole(paths[GIVEN], &n))
-        return 2;
-    bool restorable = examine(asked->page, n, &count);
+        return FAILED;
+    int status = examine(asked, n, &bytes, &count);
     if (!is_printed())
-        return 2;
-    if (!restorable)
-        return 1;
-    return !writes || write_both(paths, n, count) ? 0 : 2;
+        return FAILED;
+    if (status == NOTHING_GOES_ON || !writes)
+        return status;
+    return write_both(paths, bytes, count) ? status : FAILED;
 }
 
 /* Hands standard input to the reader as it comes: to its end, or until it is longer than any sound file, for then more
@@ -360,24 +545,24 @@ static int judge_input(uint32_t page)
 {
     desk_reader reader = desk_reader_new(page);
     if (!feed_input(&reader))
-        return 2;
+        return FAILED;
     desk_answer found = desk_reader_end(reader, none_taken, 0).answer;
     if (found.number) {
-        refused(page, found.number, found.record, found.at);
+        tell_refused(page, found.number, found.record, found.at);
     } else {
         tell_sound(page, found.payments, found.euros, found.cents);
         printf("%" PRIu64 " characters would be changed\n", found.changes);
     }
     if (!is_printed())
-        return 2;
-    return found.number ? 1 : 0;
+        return FAILED;
+    return found.number ? NOTHING_GOES_ON : ALL_GOES_ON;
 }
 
 int main(int argc, char **argv)
 {
-    request asked = {DESK_ISO_8859_1, argc - 1, argv + 1};
+    request asked = {DESK_ISO_8859_1, false, argc - 1, argv + 1};
     if (!understand(&asked))
-        return 2;
+        return FAILED;
     signal(SIGPIPE, SIG_IGN); /* where nobody reads on, printing fails, and is told like every other failure */
     return is_input(asked.words[0]) ? judge_input(asked.page) : work_on_file(&asked);
 }

@@ -1,37 +1,48 @@
-//! A host: judges a file, prepares it, tells each change with its field and the characters before and after, shows that
-//! restore gives the file back, and writes the forwarded file and its notes. Or it judges a file that arrives on standard
-//! input, and tells how many characters would be changed.
+//! A host: prepares a file and tells what it finds. Payments that break a rule come back, each with its amount, its payee
+//! and the field; the others go on. Each change is told with its field and the characters before and after, restore is
+//! shown to give back what goes on, and the forwarded file and its notes are written. Or it judges a file that arrives on
+//! standard input, and tells how many characters would be changed.
 //!
-//!     example [--page 0|1] FILE [FORWARDED NOTES]
+//!     example [--page 0|1] [--strict] FILE [FORWARDED NOTES]
 //!     example [--page 0|1] -
 //!
 //! The page says at which codes the file has the four German characters: 0 is DIN 66003, 1 is ISO 8859-1. Where none is
 //! named it is 1. It is told with the verdict: store it with the pair, for restore needs the page and the country lists
 //! that prepare had. Any other word that begins with - is taken for an option; a file of such a name is ./-name.
 //!
+//! With --strict a file goes on as a whole or not at all. Without it what goes on is the kept file: Q, the payments that
+//! break no rule, and Z with their totals. Changes are told by their record and place there, returned payments by their
+//! record in FILE. Those stay in FILE alone, so keep it; and they need a new file number, for the kept file has that of FILE.
+//! A payee is told as the page reads it, in UTF-8. What the page has no character for, and what a terminal would obey, is
+//! told as U+FFFD.
+//!
 //! Standard input may be of any length: it goes through a reader in cuts, and no more than one cut is held. It can be
-//! judged and not prepared, for prepare takes a whole file.
+//! judged and not prepared, for prepare takes a whole file; the judge is always strict.
 //!
 //! It writes over nothing, and nothing that fails leaves anything behind:
 //! 1. FORWARDED and NOTES are two new files: what is there already is never replaced, FILE least of all.
-//! 2. FILE is read, judged, prepared and restored in memory, and what is restored has to be the very file.
-//! 3. All this is told. Where it cannot be printed nothing is written: no file goes on with changes that nobody saw.
+//! 2. FILE is read, judged, prepared and restored in memory. What is restored has to be the very file, or where payments
+//!    come back the kept file, put together from FILE and the list.
+//! 3. All this is told. Where it cannot be printed nothing is written: no file goes on with changes, or without
+//!    payments, that nobody saw.
 //! 4. Notes and forwarded file are written, down to the disk, each to a new file beside its target: the target's name
 //!    with .new behind it. Where such a file is there already, as a killed run leaves it, it stays and the run ends.
 //! 5. When both are complete they are renamed to their targets, the notes first: no forwarded file is without them.
 //!
 //! Where a step fails, what it made is removed.
 //!
-//! In the notes file each note has four bytes, little-endian. Status 0: sound, and all is done; 1: refused, or not
-//! restored; 2: used wrongly, or something could not be read or written.
+//! In the notes file each note has four bytes, little-endian. Status 0: the whole file goes on, and all is done; 1: nothing
+//! goes on, for it is refused or not restored; 2: used wrongly, or something could not be read or written; 3: all is done,
+//! but some payments come back.
 
 #[allow(dead_code)] // not every call is made here
 mod desk;
 
-use desk::{Answer, Judgement, Lists, Note, Page, Reader, Refusal, MOST_BYTES};
+use desk::{Answer, Judgement, Lists, Note, Page, Prepared, Reader, Refusal, MOST_BYTES};
 use std::ffi::{OsStr, OsString};
 use std::fs::{self, File, OpenOptions};
 use std::io::{self, BufWriter, ErrorKind, Read, Stdout, Write};
+use std::ops::Range;
 use std::os::unix::{ffi::OsStrExt, fs::MetadataExt, io::AsFd};
 use std::path::{Path, PathBuf};
 use std::process::ExitCode;
@@ -44,7 +55,19 @@ const LISTS: Lists = Lists {
     cheque: b"ARBOBRCLCRDOSVECGTGBHNCACOMXNIPAPYPEPRUYUSVE",
 };
 
-const USAGE: &str = "usage: example [--page 0|1] FILE [FORWARDED NOTES], or example [--page 0|1] -";
+/// The bytes of the records.
+const Q: usize = 256;
+const T: usize = 768;
+const Z: usize = 256;
+
+/// Where fields stand in their records; of T10b the first line.
+const PAYEE: Range<usize> = 210..245;
+const T14A: Range<usize> = 458..472;
+const T14B: Range<usize> = 472..475;
+const Z3: Range<usize> = 5..20;
+const Z4: Range<usize> = 20..35;
+
+const USAGE: &str = "usage: example [--page 0|1] [--strict] FILE [FORWARDED NOTES], or example [--page 0|1] -";
 
 /// The word that stands for standard input.
 const INPUT: &str = "-";
@@ -52,17 +75,24 @@ const INPUT: &str = "-";
 /// Something could not be done: what is said of it, in which a path keeps its very bytes.
 type Failure = OsString;
 
+/// How much of the file goes on: the status to end with.
+#[derive(Clone, Copy)]
+enum GoesOn {
+    All = 0,
+    Nothing = 1,
+    Some = 3,
+}
+
 fn main() -> ExitCode {
     let words: Vec<OsString> = std::env::args_os().skip(1).collect();
-    let done = understand(&words).and_then(|(page, paths)| match paths {
-        [word] if word == INPUT => judge_input(page),
-        [file] => work_on_file(page, Path::new(file), None),
-        [file, forwarded, notes] => work_on_file(page, Path::new(file), Some(Targets::new(forwarded, notes))),
+    let done = understand(&words).and_then(|(way, paths)| match paths {
+        [word] if word == INPUT => judge_input(way.page),
+        [file] => work_on_file(way, Path::new(file), None),
+        [file, forwarded, notes] => work_on_file(way, Path::new(file), Some(Targets::new(forwarded, notes))),
         _ => Err(USAGE.into()),
     });
     match done {
-        Ok(true) => ExitCode::SUCCESS,
-        Ok(false) => ExitCode::from(1),
+        Ok(goes_on) => ExitCode::from(goes_on as u8),
         Err(mut line) => {
             line.push("\n");
             let _ = io::stderr().write_all(line.as_bytes()); // where this cannot be said either, the status says it
@@ -71,20 +101,42 @@ fn main() -> ExitCode {
     }
 }
 
-/// What is asked for: the page, and by the other words the paths, or - alone for standard input.
-fn understand(words: &[OsString]) -> Result<(Page, &[OsString]), Failure> {
-    let (page, paths) = match words {
-        [option] if option == "--page" => return Err(no_page("--page names no page".into())),
-        [option, word, paths @ ..] if option == "--page" => (page_of(word)?, paths),
-        paths => (Page::Iso8859_1, paths),
-    };
+/// How the file is to be prepared: on which page, and whether as a whole or not at all.
+#[derive(Clone, Copy)]
+struct Way {
+    page: Page,
+    is_strict: bool,
+}
+
+/// What is asked for: by the options the way, and by the other words the paths, or - alone for standard input.
+fn understand(words: &[OsString]) -> Result<(Way, &[OsString]), Failure> {
+    let (way, paths) = options(words)?;
     match misplaced(paths) {
         Some(line) => Err(joined(&[&line, &"\n", &USAGE])),
-        None => Ok((page, paths)),
+        None => Ok((way, paths)),
     }
 }
 
-/// What is wrong with a word where it stands: standard input stands alone, and behind the page there is no option.
+/// The options, in any order and each once, and the words behind them.
+fn options(mut words: &[OsString]) -> Result<(Way, &[OsString]), Failure> {
+    let (mut page, mut is_strict) = (None, false);
+    loop {
+        words = match words {
+            [option, behind @ ..] if option == "--strict" && !is_strict => {
+                is_strict = true;
+                behind
+            }
+            [option] if option == "--page" && page.is_none() => return Err(no_page("--page names no page".into())),
+            [option, word, behind @ ..] if option == "--page" && page.is_none() => {
+                page = Some(page_of(word)?);
+                behind
+            }
+            _ => return Ok((Way { page: page.unwrap_or(Page::Iso8859_1), is_strict }, words)),
+        }
+    }
+}
+
+/// What is wrong with a word where it stands: standard input stands alone, and behind the options there is no other.
 fn misplaced(words: &[OsString]) -> Option<Failure> {
     match words {
         [word] if word == INPUT => None,
@@ -112,30 +164,33 @@ fn no_page(why: OsString) -> Failure {
     joined(&[&why, &format!(": there is {} and {}", Page::Din66003, Page::Iso8859_1)])
 }
 
-/// The host's work on a file; false where it is refused.
-fn work_on_file(page: Page, path: &Path, targets: Option<Targets>) -> Result<bool, Failure> {
+/// The host's work on a file.
+fn work_on_file(way: Way, path: &Path, targets: Option<Targets>) -> Result<GoesOn, Failure> {
     if let Some(targets) = &targets {
         targets.are_new()?;
     }
     let file = read(path)?;
-    let outgoing = told(|out| examine(page, &file, out))?;
-    if let (Some(outgoing), Some(targets)) = (&outgoing, &targets) {
-        targets.write(outgoing)?;
+    let outgoing = match told(|out| examine(way, &file, out))? {
+        Some(outgoing) => outgoing,
+        None => return Ok(GoesOn::Nothing),
+    };
+    if let Some(targets) = &targets {
+        targets.write(&outgoing)?;
     }
-    Ok(outgoing.is_some())
+    Ok(if outgoing.returned.is_empty() { GoesOn::All } else { GoesOn::Some })
 }
 
-/// The host's work on standard input; false where what arrives is refused.
-fn judge_input(page: Page) -> Result<bool, Failure> {
+/// The host's work on standard input.
+fn judge_input(page: Page) -> Result<GoesOn, Failure> {
     let mut reader = Reader::new(page);
     feed_input(&mut reader)?;
     told(|out| match reader.end(&[]) {
         Ok(Answer { judgement, changes }) => {
             tell_sound(page, judgement, out)?;
             writeln!(out, "{changes} characters would be changed")?;
-            Ok(true)
+            Ok(GoesOn::All)
         }
-        Err(refusal) => refused(page, refusal, out).map(|()| false),
+        Err(refusal) => refused(page, refusal, out).map(|()| GoesOn::Nothing),
     })
 }
 
@@ -159,33 +214,170 @@ fn told<T>(tell: impl FnOnce(&mut BufWriter<Stdout>) -> io::Result<T>) -> Result
     }
 }
 
-/// What goes on: the forwarded file, and its notes.
+/// What goes on: the forwarded file, and its notes; and the list of what comes back.
 struct Outgoing {
     forwarded: Vec<u8>,
     notes: Vec<u32>,
+    returned: Vec<u32>,
 }
 
-/// Judges, prepares and restores the file in memory, and tells what it finds. What goes on is there where the file is
-/// sound and the very file was restored.
-fn examine(page: Page, file: &[u8], out: &mut impl Write) -> io::Result<Option<Outgoing>> {
-    match desk::judge(page, file, LISTS, &[]) {
+/// Judges, prepares and restores the file in memory, and tells what it finds. What goes on is there where the file is not
+/// refused and the very file was restored, or where payments come back the kept file.
+fn examine(way: Way, file: &[u8], out: &mut impl Write) -> io::Result<Option<Outgoing>> {
+    let Way { page, .. } = way;
+    let judged = desk::judge(page, file, LISTS, &[]);
+    let (outgoing, sent) = match prepare(way, file, judged) {
+        Ok(prepared) => prepared,
+        Err(refusal) => return tell_refusal(page, refusal, judged.err(), out).map(|()| None),
+    };
+    match judged {
         Ok(judgement) => tell_sound(page, judgement, out)?,
-        Err(refusal) => return refused(page, refusal, out).map(|()| None),
+        Err(_) => tell_sorted(page, file, &outgoing, sent, out)?,
     }
+    let Outgoing { forwarded, notes, returned } = &outgoing;
+    tell_changes(forwarded, notes, out)?;
 
-    let mut forwarded = vec![0; file.len()];
-    let mut notes = vec![0; file.len()];
-    match desk::prepare(page, file, LISTS, &mut forwarded, &mut notes) {
-        Ok(count) => notes.truncate(count),
-        Err(refusal) => return refused(page, refusal, out).map(|()| None),
+    let mut restored = vec![0; forwarded.len()];
+    let back = desk::restore(page, forwarded, notes, LISTS, &mut restored);
+    let is_restored = back.is_ok() && restored == put_together(file, returned, sent);
+    let line = match (is_restored, returned.is_empty()) {
+        (false, _) => "not restored",
+        (true, true) => "restored: the very file",
+        (true, false) => "restored: the very kept file",
+    };
+    writeln!(out, "{line}")?;
+    Ok(is_restored.then_some(outgoing))
+}
+
+/// Prepares the file by the way that is asked for. What the strict way sends is the whole file, as the judge counts it.
+fn prepare(way: Way, file: &[u8], judged: Result<Judgement, Refusal>) -> Result<(Outgoing, Prepared), Refusal> {
+    let (mut forwarded, mut notes) = (vec![0; file.len()], vec![0; file.len()]);
+    let mut returned = vec![0; file.len() / T];
+    let sent = if way.is_strict {
+        let Judgement { payments, euros, .. } = judged?;
+        let notes = desk::prepare_strict(way.page, file, LISTS, &mut forwarded, &mut notes)?;
+        Prepared { notes, kept: payments as usize, returned: 0, kept_euros: euros, returned_euros: 0 }
+    } else {
+        desk::prepare(way.page, file, LISTS, &mut forwarded, &mut notes, &mut returned)?
+    };
+    forwarded.truncate(sent.bytes());
+    notes.truncate(sent.notes);
+    returned.truncate(sent.returned);
+    Ok((Outgoing { forwarded, notes, returned }, sent))
+}
+
+/// Puts the kept file together: the records of the file that are not in the list, and Z with the figures.
+fn put_together(file: &[u8], returned: &[u32], sent: Prepared) -> Vec<u8> {
+    let (q, behind_q) = file.split_at(Q);
+    let (payments, z) = behind_q.split_at(behind_q.len() - Z);
+    let mut kept = q.to_vec();
+    let mut missing = returned.iter().map(|&number| Refusal::of_returned(number).record).peekable();
+    for (record, payment) in (1..).zip(payments.chunks(T)) {
+        if missing.next_if_eq(&record).is_none() {
+            kept.extend(payment);
+        }
     }
-    tell_changes(&forwarded, &notes, out)?;
+    kept.extend(&z[..Z3.start]);
+    kept.extend(format!("{:015}{:015}", sent.kept_euros, sent.kept).bytes());
+    kept.extend(&z[Z4.end..]);
+    kept
+}
 
-    let mut restored = vec![0; file.len()];
-    let back = desk::restore(page, &forwarded, &notes, LISTS, &mut restored);
-    let the_very_file = back.is_ok() && restored == file;
-    writeln!(out, "{}", if the_very_file { "restored: the very file" } else { "not restored" })?;
-    Ok(the_very_file.then_some(Outgoing { forwarded, notes }))
+/// Tells which payments come back, and the totals.
+fn tell_sorted(
+    page: Page,
+    file: &[u8],
+    outgoing: &Outgoing,
+    sent: Prepared,
+    out: &mut impl Write,
+) -> io::Result<()> {
+    let Prepared { kept, returned, kept_euros, returned_euros, .. } = sent;
+    let z = &file[file.len() - Z..];
+    writeln!(out, "not sound on {page}: payments that break a rule come back, the others go on")?;
+    for refusal in outgoing.returned.iter().copied().map(Refusal::of_returned) {
+        tell_returned(page, file, &outgoing.forwarded, refusal, out)?;
+    }
+    writeln!(out, "kept: {kept} payments, {kept_euros} whole euros")?;
+    writeln!(out, "returned: {returned} payments, {returned_euros} whole euros")?;
+    writeln!(out, "submitted: {} payments, {} whole euros", number(&z[Z4]), number(&z[Z3]))?;
+    writeln!(out, "the kept file has the submitted file's number; what comes back needs a new one")?;
+    writeln!(out, "in the kept file:")
+}
+
+fn tell_returned(
+    page: Page,
+    file: &[u8],
+    forwarded: &[u8],
+    refusal: Refusal,
+    out: &mut impl Write,
+) -> io::Result<()> {
+    let begin = Q + (refusal.record as usize - 1) * T;
+    let payment = &file[begin..begin + T];
+    let payee = text(page, &payment[PAYEE]);
+    writeln!(out, "record {} comes back: {} euros to \"{payee}\"", refusal.record, amount(payment))?;
+
+    // where it breaks the rule: what the judge says of it behind a sound Q and a sound payment of the same account
+    let small = [&forwarded[..Q + T], payment, &file[file.len() - Z..]].concat();
+    let at = match desk::judge(page, &small, LISTS, &[]) {
+        Err(Refusal { number, at, .. }) if number == refusal.number => at,
+        _ => 0,
+    };
+    writeln!(out, "    {}", Refusal { at, ..refusal })
+}
+
+/// A payment's amount, with the third digit behind the comma where it is not 0.
+fn amount(payment: &[u8]) -> String {
+    let (euros, thousandths) = (number(&payment[T14A]), number(&payment[T14B]));
+    match thousandths % 10 {
+        0 => format!("{euros},{:02}", thousandths / 10),
+        _ => format!("{euros},{thousandths:03}"),
+    }
+}
+
+/// Digits as a number. Where it is asked for, the desk has found digits.
+fn number(digits: &[u8]) -> u64 {
+    digits.iter().fold(0, |number, digit| number * 10 + u64::from(digit - b'0'))
+}
+
+/// A text as the page reads it, without the spaces behind it.
+fn text(page: Page, bytes: &[u8]) -> String {
+    let text: String = bytes.iter().map(|&byte| character(page, byte)).collect();
+    text.trim_end_matches(' ').into()
+}
+
+/// A character as the page reads it; U+FFFD where there is none, and in the place of one that a terminal would obey.
+fn character(page: Page, byte: u8) -> char {
+    let character = match (page, byte) {
+        (Page::Iso8859_1, _) => byte.into(),
+        (Page::Din66003, b'@') => '§',
+        (Page::Din66003, b'[') => 'Ä',
+        (Page::Din66003, b'\\') => 'Ö',
+        (Page::Din66003, b']') => 'Ü',
+        (Page::Din66003, b'{') => 'ä',
+        (Page::Din66003, b'|') => 'ö',
+        (Page::Din66003, b'}') => 'ü',
+        (Page::Din66003, b'~') => 'ß',
+        (Page::Din66003, 0x80..) => char::REPLACEMENT_CHARACTER,
+        (Page::Din66003, _) => byte.into(),
+    };
+    match character.is_control() {
+        true => char::REPLACEMENT_CHARACTER,
+        false => character,
+    }
+}
+
+/// Tells why nothing goes on. Prepare tells no field; the judge does, where it stops at the same rule. Where it stops at an
+/// earlier one, that is told too.
+fn tell_refusal(page: Page, refusal: Refusal, judged: Option<Refusal>, out: &mut impl Write) -> io::Result<()> {
+    let Refusal { number, record, .. } = refusal;
+    match judged {
+        Some(first) if (first.number, first.record) == (number, record) => refused(page, first, out),
+        Some(first) => {
+            refused(page, refusal, out)?;
+            writeln!(out, "first broken: {first}")
+        }
+        None => refused(page, refusal, out),
+    }
 }
 
 fn tell_sound(page: Page, judgement: Judgement, out: &mut impl Write) -> io::Result<()> {
@@ -197,12 +389,12 @@ fn refused(page: Page, refusal: Refusal, out: &mut impl Write) -> io::Result<()>
     writeln!(out, "refused on {page}: {refusal}")
 }
 
-/// Tells each change. They are in Q and in T records alone.
+/// Tells each change in the file that goes on. They are in Q and in T records alone.
 fn tell_changes(forwarded: &[u8], notes: &[u32], out: &mut impl Write) -> io::Result<()> {
     for Note { place, original } in notes.iter().copied().map(Note::from) {
-        let (kind, record, offset) = match place.checked_sub(256) {
+        let (kind, record, offset) = match place.checked_sub(Q) {
             None => ('Q', 0, place),
-            Some(behind_q) => ('T', behind_q / 768 + 1, behind_q % 768),
+            Some(behind_q) => ('T', behind_q / T + 1, behind_q % T),
         };
         let field = desk::columns_at(kind, offset as u64).map_or("?", |found| found.field);
         let becomes = forwarded[place] as char;
