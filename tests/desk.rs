@@ -4,13 +4,14 @@
 mod desk;
 
 use desk::Page::{Din66003, Iso8859_1};
-use desk::{Answer, Field, Judgement, Lists, Note, Page, Reader, Refusal};
+use desk::{Answer, Field, Judgement, Lists, Note, Page, Prepared, Reader, Refusal};
 use std::io::{self, ErrorKind, Read};
 
 const SOUND: &[u8] = include_bytes!("../samples/sound.dtazv");
 const DIN: &[u8] = include_bytes!("../samples/din-66003.dtazv");
 const REFUSED: &[u8] = include_bytes!("../samples/refused.dtazv");
 const CHEQUES: &[u8] = include_bytes!("../samples/cheques.dtazv");
+const RETURNED: &[u8] = include_bytes!("../samples/returned.dtazv");
 const LISTS: Lists = Lists { transfer: b"BRAUCL", cheque: b"VEPE" };
 const SWAPPED: Lists = Lists { transfer: LISTS.cheque, cheque: LISTS.transfer };
 /// Each page, and the other one.
@@ -31,9 +32,42 @@ fn named(name: &[u8]) -> Vec<u8> {
 /// The forwarded file and the notes of a sound file.
 fn prepared(page: Page, file: &[u8]) -> (Vec<u8>, Vec<u32>) {
     let (mut out, mut notes) = (vec![0; file.len()], vec![0; file.len()]);
-    let count = desk::prepare(page, file, LISTS, &mut out, &mut notes).unwrap();
+    let count = desk::prepare_strict(page, file, LISTS, &mut out, &mut notes).unwrap();
     notes.truncate(count);
     (out, notes)
+}
+
+/// A file with other bytes from a place of a record on: (record, place, bytes).
+fn with(file: &[u8], changes: &[(usize, usize, &str)]) -> Vec<u8> {
+    let mut file = file.to_vec();
+    for (record, place, bytes) in changes {
+        let start = if *record == 0 { *place } else { 256 + (record - 1) * 768 + place };
+        file[start..start + bytes.len()].copy_from_slice(bytes.as_bytes());
+    }
+    file
+}
+
+/// The kept file: Q, these payments of the file, and a Z with their euros.
+fn kept(file: &[u8], records: &[usize], euros: u64) -> Vec<u8> {
+    let payment = |record: &usize| &file[256 + (record - 1) * 768..256 + record * 768];
+    let z = format!("0256Z{euros:015}{:015}{:221}", records.len(), "");
+    [&file[..256], &records.iter().map(payment).collect::<Vec<_>>().concat(), z.as_bytes()].concat()
+}
+
+/// What `prepare` leaves of a file: its answer, the forwarded file, the notes and the returned list.
+fn sorted(page: Page, file: &[u8]) -> (Prepared, Vec<u8>, Vec<u32>, Vec<u32>) {
+    let (mut out, mut notes, mut returned) = (vec![0; file.len()], vec![0; file.len()], vec![0; file.len() / 768]);
+    let sent = desk::prepare(page, file, LISTS, &mut out, &mut notes, &mut returned).unwrap();
+    out.truncate(sent.bytes());
+    notes.truncate(sent.notes);
+    returned.truncate(sent.returned);
+    (sent, out, notes, returned)
+}
+
+/// The returned list of a file, and the payments and euros that are kept and returned.
+fn list(file: &[u8]) -> (Vec<u32>, [u64; 4]) {
+    let (sent, .., returned) = sorted(Iso8859_1, file);
+    (returned, [sent.kept as u64, sent.returned as u64, sent.kept_euros, sent.returned_euros])
 }
 
 /// A sound file, the sample's first payment so many times: 120 euros and 50 cents each.
@@ -128,7 +162,8 @@ fn pages() {
     for ((page, other), name) in PAGES.into_iter().zip([b"\x5B\x5C\x5D\x7E", b"\xC4\xD6\xDC\xDF"]) {
         let file = named(name);
         assert_eq!(desk::judge(other, &file, LISTS, &[]), refused(12, 0, 23));
-        assert_eq!(desk::prepare(other, &file, LISTS, &mut out, &mut notes), refused(12, 0, 0));
+        assert_eq!(desk::prepare_strict(other, &file, LISTS, &mut out, &mut notes), refused(12, 0, 0));
+        assert_eq!(desk::prepare(other, &file, LISTS, &mut out, &mut notes, &mut []), refused(12, 0, 0));
         assert!(out.iter().all(|&byte| byte == 7) && notes == [9; 8]);
         assert!(desk::judge(page, &file, LISTS, &[]).is_ok());
         assert!(prepared(page, &file).0[23..].starts_with(b"AOUS "));
@@ -254,7 +289,7 @@ fn prepares_and_restores() {
     let other_page = [(Din66003, SOUND, b" + "), (Iso8859_1, DIN, b" + ")];
     for (page, file, becomes) in own_page.into_iter().chain(other_page) {
         let (mut out, mut notes) = (vec![7; file.len() + 1], [9; 4]);
-        assert_eq!(desk::prepare(page, file, LISTS, &mut out, &mut notes), Ok(3));
+        assert_eq!(desk::prepare_strict(page, file, LISTS, &mut out, &mut notes), Ok(3));
         assert_eq!((out[file.len()], notes[3]), (7, 9));
         let mut due = file.to_vec();
         for (i, place) in [40, 1235, 2003].into_iter().enumerate() {
@@ -293,15 +328,121 @@ fn restores_on_the_page_of_prepare() {
 }
 
 #[test]
-fn refused_prepare_changes_nothing() {
+fn refused_strict_prepare_changes_nothing() {
     let (mut out, mut notes) = (vec![7; SOUND.len()], [9; 3]);
     for page in [Din66003, Iso8859_1] {
-        assert_eq!(desk::prepare(page, REFUSED, LISTS, &mut out, &mut notes), refused(42, 4, 0));
-        assert_eq!(desk::prepare(page, SOUND, SWAPPED, &mut out, &mut notes), refused(28, 1, 0));
-        assert_eq!(desk::prepare(page, SOUND, LISTS, &mut out[1..], &mut notes), refused(60, 0, 0));
-        assert_eq!(desk::prepare(page, SOUND, LISTS, &mut out, &mut notes[1..]), refused(61, 0, 0));
+        assert_eq!(desk::prepare_strict(page, REFUSED, LISTS, &mut out, &mut notes), refused(42, 4, 0));
+        assert_eq!(desk::prepare_strict(page, RETURNED, LISTS, &mut out, &mut notes), refused(28, 2, 0));
+        assert_eq!(desk::prepare_strict(page, SOUND, SWAPPED, &mut out, &mut notes), refused(28, 1, 0));
+        assert_eq!(desk::prepare_strict(page, SOUND, LISTS, &mut out[1..], &mut notes), refused(60, 0, 0));
+        assert_eq!(desk::prepare_strict(page, SOUND, LISTS, &mut out, &mut notes[1..]), refused(61, 0, 0));
     }
     assert!(out.iter().all(|&byte| byte == 7) && notes == [9; 3]);
+}
+
+/// Of the sample's payments 1, 3 and 5 are kept, with 120, 1000 and 99 euros; 2 and 4 have 79 and 250.
+#[test]
+fn sends_the_good_ones() {
+    let due = Prepared { notes: 5, kept: 3, returned: 2, kept_euros: 1219, returned_euros: 329 };
+    let goes_on = kept(RETURNED, &[1, 3, 5], 1219);
+    for (page, other) in PAGES {
+        let (mut out, mut notes, mut returned) = (vec![7; RETURNED.len()], [9; 8], [8; 4]);
+        assert_eq!(desk::prepare(page, RETURNED, LISTS, &mut out, &mut notes, &mut returned), Ok(due));
+        assert_eq!((due.bytes(), returned), (goes_on.len(), [228, 429, 8, 8]));
+        let (sent, behind) = out.split_at(due.bytes());
+        assert!(behind.iter().all(|&byte| byte == 7) && notes[5..] == [9; 3]);
+        assert_eq!((sent.to_vec(), notes[..5].to_vec()), prepared(page, &goes_on));
+        assert!(desk::judge(page, sent, LISTS, &[]).is_ok());
+
+        let mut back = vec![7; RETURNED.len()];
+        assert_eq!(desk::restore(other, sent, &notes[..5], LISTS, &mut back), refused(70, 0, 0));
+        assert_eq!(desk::restore(page, sent, &notes[..5], LISTS, &mut back), Ok(()));
+        assert_eq!(back, [&goes_on, behind].concat());
+    }
+}
+
+#[test]
+fn a_sound_file_goes_on_as_the_strict_way_has_it() {
+    let longest = payments(9999);
+    let files = [SOUND, DIN, CHEQUES, &longest];
+    for (page, file) in PAGES.into_iter().flat_map(|(page, _)| files.map(|file| (page, file))) {
+        let (strict, notes) = prepared(page, file);
+        let Judgement { payments, euros, .. } = desk::judge(page, file, LISTS, &[]).unwrap();
+        let kept = payments as usize;
+        let due = Prepared { notes: notes.len(), kept, returned: 0, kept_euros: euros, returned_euros: 0 };
+        assert_eq!(due.bytes(), file.len());
+        let (mut out, mut own) = (vec![7; file.len()], vec![9; notes.len()]);
+        assert_eq!(desk::prepare(page, file, LISTS, &mut out, &mut own, &mut []), Ok(due));
+        assert_eq!((out, own), (strict, notes));
+    }
+}
+
+#[test]
+fn names_what_comes_back() {
+    // the first rule of several
+    let several = with(SOUND, &[(2, 455, "USD"), (2, 648, "03"), (2, 765, "X"), (3, 765, "X")]);
+    assert_eq!(list(&several), (vec![224, 335], [1, 2, 120, 1079]));
+    // an amount with a last digit, and one of zero
+    assert_eq!(list(&with(SOUND, &[(3, 474, "5")])), (vec![333], [2, 1, 199, 1000]));
+    let zero = with(SOUND, &[(3, 458, "00000000000000000"), (4, 5, "000000000000199")]);
+    assert_eq!(list(&zero), (vec![333], [2, 1, 199, 0]));
+    // record 1 with another account than the rest; and record 1 returned, with which the rest is still compared
+    assert_eq!(list(&with(SOUND, &[(1, 25, "5")])), (vec![221, 321], [1, 2, 120, 1079]));
+    assert_eq!(list(&with(SOUND, &[(1, 455, "USD"), (2, 25, "5")])), (vec![132, 221], [1, 2, 1000, 199]));
+    // the highest number, and the longest list
+    let last = with(&payments(9999), &[(9999, 455, "USD")]);
+    assert_eq!(list(&last), (vec![999_932], [9998, 1, 9998 * 120, 120]));
+    let others = with(&payments(9999), &[(1, 25, "5")]);
+    assert_eq!(list(&others), ((2..=9999).map(|record| record * 100 + 21).collect(), [1, 9998, 120, 9998 * 120]));
+    assert_eq!(Refusal::of_returned(999_932), Refusal { number: 32, record: 9999, at: 0 });
+}
+
+/// hosts/c/desk.h has the small file by which the judge tells it.
+#[test]
+fn in_which_field_a_returned_payment_breaks_its_rule() {
+    let first_returned = with(SOUND, &[(1, 455, "USD"), (2, 25, "5")]);
+    for (file, due) in [(RETURNED, [(2, 28, 207), (4, 29, 210)]), (&first_returned, [(1, 32, 455), (2, 21, 16)])] {
+        let (_, out, _, returned) = sorted(Iso8859_1, file);
+        for (number, (record, rule, at)) in returned.into_iter().zip(due) {
+            assert_eq!(Refusal::of_returned(number), Refusal { number: rule, record, at: 0 });
+            let begin = 256 + (record as usize - 1) * 768;
+            let small = [&out[..1024], &file[begin..begin + 768], &file[file.len() - 256..]].concat();
+            assert_eq!(desk::judge(Iso8859_1, &small, LISTS, &[]), refused(rule, 2, at));
+        }
+    }
+}
+
+/// Each file breaks what comes later too. The room is that of the output, of the notes and of the list: none, or one short.
+#[test]
+fn a_refused_prepare_changes_nothing() {
+    let second = (2, 207, "XX"); // T10a, for which it would come back
+    let (no_digit, total) = ((3, 472, "X"), (4, 19, "8"));
+    let none = [0, 0, 0];
+    let cases = [
+        (with(SOUND, &[(0, 177, "J"), second, no_digit, total])[..2815].to_vec(), none, (2, 4)),
+        (with(SOUND, &[(0, 177, "J"), second, no_digit, total]), none, (15, 0)),
+        (with(SOUND, &[second, no_digit, total, (4, 255, "X")]), none, (33, 3)),
+        (with(SOUND, &[(2, 5, "X"), (2, 471, "X"), no_digit]), none, (33, 2)),
+        (with(SOUND, &[second, total, (4, 34, "2"), (4, 255, "X")]), none, (40, 4)),
+        (with(SOUND, &[second, total, (4, 34, "2")]), none, (41, 4)),
+        (with(SOUND, &[(1, 5, "X"), total]), none, (42, 4)),
+        (with(SOUND, &[(1, 5, "X")]), none, (43, 0)),
+        (with(&payments(1), &[(1, 207, "XX")]), none, (43, 0)),
+        (RETURNED.to_vec(), [2815, 4, 1], (60, 0)),
+        (RETURNED.to_vec(), [2815, 5, 2], (60, 0)),
+        (RETURNED.to_vec(), [2816, 4, 1], (61, 0)),
+        (RETURNED.to_vec(), [2816, 4, 2], (61, 0)),
+        (RETURNED.to_vec(), [2816, 5, 1], (63, 0)),
+        (RETURNED.to_vec(), [2816, 5, 0], (63, 0)),
+    ];
+    for (file, [bytes, places, payments], (number, record)) in cases {
+        let (mut out, mut notes, mut returned) = (vec![7; bytes], vec![9; places], vec![8; payments]);
+        let answer = desk::prepare(Iso8859_1, &file, LISTS, &mut out, &mut notes, &mut returned);
+        assert_eq!(answer, refused(number, record, 0));
+        assert_eq!((out, notes, returned), (vec![7; bytes], vec![9; places], vec![8; payments]), "{number}");
+    }
+    let (mut out, mut notes, mut returned) = ([7; 2816], [9; 5], [8; 2]);
+    assert!(desk::prepare(Iso8859_1, RETURNED, LISTS, &mut out, &mut notes, &mut returned).is_ok());
 }
 
 #[test]
