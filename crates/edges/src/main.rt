@@ -103,7 +103,7 @@ fn patterned(notes: &[u32]) -> bool {
 
 // A call that is refused: output and note places come with a pattern, and the output's is given besides.
 fn refused(page: u32, edge: &[u8], file: &[u8], out: &mut [u8], pattern: &[u8], notes: &mut [u32]) {
-    let p = prepare::prepare(page, file, &LIST, &LIST, out, notes);
+    let p = prepare::strict(page, file, &LIST, &LIST, out, notes);
     tell(edge, p.number, p.rec);
     tell_whether(b"  output untouched", fields::same(out, pattern));
     tell_whether(b"  note places untouched", patterned(notes));
@@ -112,7 +112,7 @@ fn refused(page: u32, edge: &[u8], file: &[u8], out: &mut [u8], pattern: &[u8], 
 fn ample(file: &[u8]) {
     let mut out = [PATTERN; 2050];
     let mut notes = [NOTE_PATTERN; 3];
-    let p = prepare::prepare(0, file, &LIST, &LIST, &mut out, &mut notes);
+    let p = prepare::strict(0, file, &LIST, &LIST, &mut out, &mut notes);
     tell(b"ample room", p.number, p.rec);
     tell_whether(
         b"  output behind untouched",
@@ -124,7 +124,7 @@ fn ample(file: &[u8]) {
 fn exact(file: &[u8]) {
     let mut out = [PATTERN; 2048];
     let mut notes = [NOTE_PATTERN; 2];
-    let p = prepare::prepare(0, file, &LIST, &LIST, &mut out, &mut notes);
+    let p = prepare::strict(0, file, &LIST, &LIST, &mut out, &mut notes);
     tell(b"exact room", p.number, p.rec);
     restore(b"two notes, rising places", &out, &notes, file);
     restore(
@@ -193,7 +193,7 @@ fn example(file: &[u8], out: &mut [u8]) {
     say_number(b", euros ", v.euros);
     say_number(b", cents ", v.cents);
     let mut notes = [NOTE_PATTERN; 2];
-    let p = prepare::prepare(0, file, &LIST, &LIST, out, &mut notes);
+    let p = prepare::strict(0, file, &LIST, &LIST, out, &mut notes);
     say_number(b", notes ", p.notes as u64);
     say(b"\n");
     tell_whether(b"  its note is 316198", notes[0] == NOTE);

@@ -10,7 +10,7 @@ fn forwarded(page: u32, byte: u8) -> u8 {
     drafts::put(&mut file, PLACE, &[byte]);
     let mut out = [crate::PATTERN; 2048];
     let mut notes = [crate::NOTE_PATTERN; 1];
-    let p = prepare::prepare(
+    let p = prepare::strict(
         page,
         &file,
         &crate::LIST,
