@@ -17,6 +17,8 @@ pub mod Demand3
 pub mod There
 pub mod Show
 pub mod Settled
+pub mod Named
+pub mod Sorting
 pub mod Reading
 pub mod Program
 pub mod Pointed

@@ -11,5 +11,6 @@ pub mod Demand3
 pub mod Show
 pub mod Program
 pub mod Settled
+pub mod Sorting
 pub mod ShutOut
 pub mod Widths
