@@ -19,6 +19,7 @@ pub mod Show
 pub mod Settled
 pub mod Named
 pub mod Sorting
+pub mod Due
 pub mod Reading
 pub mod Program
 pub mod Pointed

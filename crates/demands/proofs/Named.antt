@@ -5,10 +5,10 @@ use mathlib.Core.Bool.{Bool, true, false, not, cond, false≢true}
 use mathlib.Core.List.{List, [], _∷_}
 use mathlib.Core.Logic.{inl, inr}
 use native.Mathlib.Omega.{arith}
-use borrow.Author.Tests.{eqb-true, eqb-false, ne-eqb, not-true, not-false}
+use borrow.Author.Tests.{eqb-true, eqb-false, eq-eqb, ne-eqb, not-true, not-false}
 use lib.Dec.{eqb}
 use lib.ListN.{length, getD}
-use Rattle.laws.specs.Scan.{Means, means}
+use Rattle.laws.specs.Scan.{first, Means, means}
 use Rattle.payments.specs.Rules.{keyOf}
 use Rattle.payments.specs.Faults.{tFault}
 use Rattle.structure.specs.Slots.{slotAt}
@@ -18,7 +18,8 @@ use Rattle.judge.specs.Apart.{slotsFrom, slots-count}
 use Rattle.sorting.specs.Kept.{firstOf, named, ruleIn, namedIn}
 use Rattle.sorting.specs.Sound.{first-below}
 use Rattle.sorting.specs.Frame.{records-are}
-use Rattle.demands.specs.Sorting.{tSays, BreaksFirst, Names, NamesAreOne}
+use Rattle.sorting.specs.Outcome.{finds-none}
+use Rattle.demands.specs.Sorting.{FirstOf, NoneOf, tSays, BreaksFirst, BreaksNone, Names, NamesAreOne}
 use Rattle.demands.proofs.Alone.{one-number, same-rising}
 
 -- of any list of records: rule tells of each its first broken rule, or 0
@@ -93,39 +94,70 @@ module _ (rule : List ℕ → ℕ) where
       go false (suc i) zero l h r = absurd (omega arith)
       go false (suc i) (suc j) l h r = r i j (omega arith) (omega arith)
 
--- the first broken rule of a record, as the search tells it and as the statement has it
-module _ (page : ℕ) (file transfer cheque : List ℕ) (k : ℕ) where
+-- the first broken rule, as a search tells it and as the statement has it: says is what the searched rules answer
+module _ (G says : ℕ → ℕ) (from to : ℕ) (alike : (r : ℕ) → from ≤ r → r ≤ to → says r ≡ G r) (low : 0 < from) where
   abbrev breaks : ℕ → Bool
-  breaks r = not (eqb (tSays page file transfer cheque k r) 0)
+  breaks r = not (eqb (G r) 0)
 
-  pub breaks-first : (v : ℕ) → v ≡ ruleIn page file transfer cheque (slotAt file k) → (v ≡ 0 → ⊥) → BreaksFirst page file transfer cheque k v
-  unfolding firstOf
-  breaks-first v e f = by v f (subst (Means breaks (λ (r : ℕ). r) 0 20 36) (sym e) (means breaks (λ (r : ℕ). r) 0 20 36))
+  abbrev found : ℕ
+  found = first breaks (λ (r : ℕ). r) 0 from (to + 1)
+
+  pub found-first : (v : ℕ) → v ≡ found → (v ≡ 0 → ⊥) → FirstOf says from to v
+  found-first v e f = by v f (subst (Means breaks (λ (r : ℕ). r) 0 from (to + 1)) (sym e) (means breaks (λ (r : ℕ). r) 0 from (to + 1)))
     where
-      by : (v : ℕ) → (v ≡ 0 → ⊥) → Means breaks (λ (r : ℕ). r) 0 20 36 v → BreaksFirst page file transfer cheque k v
+      by : (v : ℕ) → (v ≡ 0 → ⊥) → Means breaks (λ (r : ℕ). r) 0 from (to + 1) v → FirstOf says from to v
       by v f (inl p) = absurd (f (p .0))
       by v f (inr p) =
+          let up : from ≤ v = omega (arith, p .answer, p .above) in
+          let down : v ≤ to = omega (arith, p .answer, p .below) in
           record {
-            from-20 = omega (arith, p .answer, p .above);
-            to-35 = omega (arith, p .answer, p .below);
-            broken = λ z. eqb-false _ 0 (not-true _ (p .holds)) (ap (tSays page file transfer cheque k) (sym (p .answer)) ∙ z);
-            none-before = λ r a b. eqb-true _ 0 (not-false _ (p .before r a (omega (arith, p .answer))));
+            low = up;
+            high = down;
+            broken = λ z. eqb-false _ 0 (not-true _ (p .holds)) (ap G (sym (p .answer)) ∙ sym (alike v up down) ∙ z);
+            none-before = λ r a b. alike r a (omega arith) ∙ eqb-true (G r) 0 (not-false _ (p .before r a (omega (arith, p .answer))));
           }
 
-  pub is-first : (rule : ℕ) → BreaksFirst page file transfer cheque k rule → ruleIn page file transfer cheque (slotAt file k) ≡ rule
-  unfolding firstOf
-  is-first rule b = by (ruleIn page file transfer cheque (slotAt file k)) (means breaks (λ (r : ℕ). r) 0 20 36)
+  pub first-found : (rule : ℕ) → FirstOf says from to rule → found ≡ rule
+  first-found rule b = by found (means breaks (λ (r : ℕ). r) 0 from (to + 1))
     where
       is-broken : breaks rule ≡ true
-      is-broken = ap not (ne-eqb (tSays page file transfer cheque k rule) 0 (b .broken))
+      is-broken = ap not (ne-eqb (G rule) 0 (λ z. b .broken (alike rule (b .low) (b .high) ∙ z)))
 
-      by : (v : ℕ) → Means breaks (λ (r : ℕ). r) 0 20 36 v → v ≡ rule
-      by v (inl p) = absurd (false≢true (sym (p .1 rule (b .from-20) (omega (arith, b .to-35))) ∙ is-broken))
+      by : (v : ℕ) → Means breaks (λ (r : ℕ). r) 0 from (to + 1) v → v ≡ rule
+      by v (inl p) = absurd (false≢true (sym (p .1 rule (b .low) (omega (arith, b .high))) ∙ is-broken))
       by v (inr p) =
           p .answer
           ∙ one-number (p .place) rule
-          (λ l. eqb-false _ 0 (not-true _ (p .holds)) (b .none-before (p .place) (p .above) l))
-          (λ l. false≢true (sym (p .before rule (b .from-20) l) ∙ is-broken))
+          (λ l. eqb-false _ 0 (not-true _ (p .holds)) (sym (alike (p .place) (p .above) (omega (arith, p .below))) ∙ b .none-before (p .place) (p .above) l))
+          (λ l. false≢true (sym (p .before rule (b .low) l) ∙ is-broken))
+
+  pub none-found : NoneOf says from to → found ≡ 0
+  none-found h = finds-none breaks (λ (r : ℕ). r) 0 from (to + 1) (λ r a b. ap not (eq-eqb (G r) 0 (sym (alike r a (omega arith)) ∙ h r a (omega arith))))
+
+  pub found-none : found ≡ 0 → NoneOf says from to
+  found-none e r a b = by found e (means breaks (λ (r : ℕ). r) 0 from (to + 1))
+    where
+      by : (v : ℕ) → v ≡ 0 → Means breaks (λ (r : ℕ). r) 0 from (to + 1) v → says r ≡ 0
+      by v e (inl p) = alike r a b ∙ eqb-true (G r) 0 (not-false _ (p .1 r a (omega arith)))
+      by v e (inr p) = absurd (omega (arith, p .answer, p .above))
+
+-- of T record k
+module _ (page : ℕ) (file transfer cheque : List ℕ) (k : ℕ) where
+  pub breaks-first : (v : ℕ) → v ≡ ruleIn page file transfer cheque (slotAt file k) → (v ≡ 0 → ⊥) → BreaksFirst page file transfer cheque k v
+  unfolding firstOf
+  breaks-first v e f = found-first (tSays page file transfer cheque k) (tSays page file transfer cheque k) 20 35 (λ r a b. refl) (omega arith) v e f
+
+  pub is-first : (rule : ℕ) → BreaksFirst page file transfer cheque k rule → ruleIn page file transfer cheque (slotAt file k) ≡ rule
+  unfolding firstOf
+  is-first rule b = first-found (tSays page file transfer cheque k) (tSays page file transfer cheque k) 20 35 (λ r a b. refl) (omega arith) rule b
+
+  pub breaks-none : ruleIn page file transfer cheque (slotAt file k) ≡ 0 → BreaksNone page file transfer cheque k
+  unfolding firstOf
+  breaks-none e = found-none (tSays page file transfer cheque k) (tSays page file transfer cheque k) 20 35 (λ r a b. refl) (omega arith) e
+
+  pub is-none : BreaksNone page file transfer cheque k → ruleIn page file transfer cheque (slotAt file k) ≡ 0
+  unfolding firstOf
+  is-none h = none-found (tSays page file transfer cheque k) (tSays page file transfer cheque k) 20 35 (λ r a b. refl) (omega arith) h
 
 slots-at : (file : List ℕ) (k m i : ℕ) → i < m → getD (slotsFrom file k m) i [] ≡ slotAt file (k + i)
 slots-at file k zero i l = absurd (omega arith)
@@ -148,7 +180,7 @@ module _ (page : ℕ) (file transfer cheque : List ℕ) (n : ℕ) where
       record {
         every = λ k r a b f.
             let is : rule (getD (slotsFrom file 1 n) (k - 1) []) ≡ r = ap rule (slot-of k a b) ∙ is-first page file transfer cheque k r f in
-            let w = named-every rule 1 (slotsFrom file 1 n) (k - 1) (omega (arith, slots-count file 1 n)) (λ z. omega (arith, is, f .from-20)) in
+            let w = named-every rule 1 (slotsFrom file 1 n) (k - 1) (omega (arith, slots-count file 1 n)) (λ z. omega (arith, is, f .low)) in
             let number : 1 + (k - 1) ≡ k = omega arith in
             (w .0, w .1, w .2 ∙ ap₂ (λ (j r : ℕ). j * 100 + r) number is);
         only = λ i l.

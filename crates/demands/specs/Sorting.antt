@@ -9,16 +9,19 @@ use lib.ListN.{length, getD, take, drop}
 use Rattle.records.specs.declared.ZField.the-variants.{Z3, Z4}
 use Rattle.fields.specs.Number.{dec}
 use Rattle.rules.specs.Z.{inZ}
-use Rattle.rules.specs.Faults.{zFault}
+use Rattle.rules.specs.Faults.{qFault, zFault}
 use Rattle.payments.specs.Rules.{keyOf}
 use Rattle.payments.specs.Faults.{tFault}
 use Rattle.structure.specs.Slots.{slotAt}
+use Rattle.structure.specs.Walk.{structureOf}
+use Rattle.structure.specs.declared.Shape.the-variants.{Fits, Refused}
 use Rattle.judge.specs.Sums.{euros, euroSum}
 use Rattle.judge.specs.Records.{MadeOf, sumOf}
+use Rattle.forwarding.specs.Forwarded.{notesOf}
 use Rattle.forwarding.specs.Put.{put}
 use Rattle.forwarding.specs.RoundTrip.{Bytes}
-use Rattle.sorting.specs.Kept.{keptFile}
-use Rattle.sorting.specs.Sorted.{shares, unsorted, inDigits}
+use Rattle.sorting.specs.Kept.{namedIn, keptFile}
+use Rattle.sorting.specs.Sorted.{unsorted, inDigits}
 use Rattle.sorting.specs.declared.Sorted.{Sorted}
 use Rattle.prepare.specs.Prepared.{done, PreparedAs}
 use Rattle.prepare.specs.Default.{DefaultAs}
@@ -28,26 +31,32 @@ use Rattle.restore.specs.declared.Restored.{Restored}
 use Rattle.demands.specs.Page.{Page}
 use Rattle.demands.specs.Broken.{Broken}
 use Rattle.demands.specs.Demand1.{FileRule}
-use Rattle.demands.specs.Demand2.{Sound, First}
+use Rattle.demands.specs.Demand2.{Sound}
 use Rattle.demands.specs.Demand3.{Yields}
-use Rattle.demands.specs.Forwarding.{Sent, Listed}
+use Rattle.demands.specs.Forwarding.{Sent}
 use Rattle.demands.specs.Settled.{Settled}
+
+-- of rules that say 0 or a place: this one is broken, of those in a range, and none before it; and none is
+pub record FirstOf (says : ℕ → ℕ) (from to rule : ℕ) : Type 0 where
+  pub low : from ≤ rule
+  pub high : rule ≤ to
+  pub broken : says rule ≡ 0 → ⊥
+  pub none-before : (r : ℕ) → from ≤ r → r < rule → says r ≡ 0
+
+abbrev pub NoneOf : (ℕ → ℕ) → ℕ → ℕ → Type 0
+NoneOf says from to = (rule : ℕ) → from ≤ rule → rule ≤ to → says rule ≡ 0
 
 module _ (page : ℕ) (file transfer cheque : List ℕ) where
   -- what a T rule says of T record k. "Rule 21 compares with record 1 even if that one is returned."
   abbrev pub tSays : ℕ → ℕ → ℕ
   tSays k rule = tFault page transfer cheque (keyOf (slotAt file 1)) (slotAt file k) rule
 
-  -- T record k breaks this rule of "T rules (20 to 35)", and none before it
-  pub record BreaksFirst (k rule : ℕ) : Type 0 where
-    pub from-20 : 20 ≤ rule
-    pub to-35 : rule ≤ 35
-    pub broken : tSays k rule ≡ 0 → ⊥
-    pub none-before : (r : ℕ) → 20 ≤ r → r < rule → tSays k r ≡ 0
+  -- the first that T record k breaks of "T rules (20 to 35)"; or it breaks none
+  abbrev pub BreaksFirst : ℕ → ℕ → Type 0
+  BreaksFirst k rule = FirstOf (tSays k) 20 35 rule
 
-  -- T record k breaks none of them
   abbrev pub BreaksNone : ℕ → Type 0
-  BreaksNone k = (rule : ℕ) → 20 ≤ rule → rule ≤ 35 → tSays k rule ≡ 0
+  BreaksNone k = NoneOf (tSays k) 20 35
 
   -- "Each is named in a lent list of 32-bit numbers, record × 100 + first broken rule, rising", of n T records
   pub record Names (n : ℕ) (list : List ℕ) : Type 0 where
@@ -157,3 +166,65 @@ abbrev pub DefaultSettled : Type 0
 DefaultSettled =
     (page : ℕ) (file transfer cheque out notes list : List ℕ)
     → Settled (λ (o : Sorted × List ℕ × List ℕ × List ℕ). DefaultAs page file transfer cheque out notes list (o .0) (o .1) (o .2) (o .3))
+
+-- "Refusals: structure, Q rules, the 33 for a non-digit by rising record, then 40 to 42; then 43, record 0, when every T record
+-- would be returned; then 60 and 61, measured on the kept file; then 63, record 0, when the list is too short."
+module _ (page : ℕ) (file transfer cheque : List ℕ) where
+  abbrev pub qSays : ℕ → ℕ
+  qSays rule = qFault page (slotAt file 0) rule
+
+  -- Z is record n + 1, and speaks of all n submitted T records
+  abbrev pub zSays : ℕ → ℕ → ℕ
+  zSays n rule = zFault n (euroSum file n) (slotAt file (n + 1)) rule
+
+  -- the first of n T records whose T14 has a non-digit; or all are digits
+  pub record FirstSpoiled (n k : ℕ) : Type 0 where
+    pub low : 1 ≤ k
+    pub high : k ≤ n
+    pub spoiled : inDigits (slotAt file k) ≡ true → ⊥
+    pub none-before : (j : ℕ) → 1 ≤ j → j < k → inDigits (slotAt file j) ≡ true
+
+  abbrev pub AllDigits : ℕ → Type 0
+  AllDigits n = (k : ℕ) → 1 ≤ k → k ≤ n → inDigits (slotAt file k) ≡ true
+
+  -- structure and Q are right, and there are n T records
+  pub record Proper (n : ℕ) : Type 0 where
+    pub fits : structureOf file ≡ Fits n
+    pub q-right : NoneOf qSays 10 16
+
+  -- and amounts, and Z: the payments are sorted
+  pub record Sorts (n : ℕ) : Type 0 where
+    pub proper : Proper n
+    pub amounts : AllDigits n
+    pub z-right : NoneOf (zSays n) 40 42
+
+  -- and one of them goes on
+  pub record Goes (n : ℕ) : Type 0 where
+    pub sorts : Sorts n
+    pub kept : ℕ
+    pub low : 1 ≤ kept
+    pub high : kept ≤ n
+    pub right : BreaksNone page file transfer cheque kept
+
+  -- number and record that are due, in A5's order
+  module _ (out notes list : List ℕ) (number rec : ℕ) where
+    abbrev pub InFull : Type 0
+    InFull = (n : ℕ) × Goes n × (length (keptFile page file transfer cheque) ≤ length out)
+
+    abbrev pub Due : Type 0
+    Due =
+        (structureOf file ≡ Refused number rec)
+        ⊎ (((n : ℕ) × (structureOf file ≡ Fits n) × FirstOf qSays 10 16 number × (rec ≡ 0))
+        ⊎ (((n : ℕ) × Proper n × FirstSpoiled n rec × (number ≡ 33))
+        ⊎ (((n : ℕ) × Proper n × AllDigits n × FirstOf (zSays n) 40 42 number × (rec ≡ n + 1))
+        ⊎ (((n : ℕ) × Sorts n × ((k : ℕ) → 1 ≤ k → k ≤ n → BreaksNone page file transfer cheque k → ⊥) × (number ≡ 43) × (rec ≡ 0))
+        ⊎ (((n : ℕ) × Goes n × (length out < length (keptFile page file transfer cheque)) × (number ≡ 60) × (rec ≡ 0))
+        ⊎ ((InFull × (length notes < length (notesOf page (keptFile page file transfer cheque))) × (number ≡ 61) × (rec ≡ 0))
+        ⊎ ((InFull × (length (notesOf page (keptFile page file transfer cheque)) ≤ length notes) × (length list < length (namedIn page file transfer cheque)) × (number ≡ 63) × (rec ≡ 0))
+        ⊎ (InFull × (length (notesOf page (keptFile page file transfer cheque)) ≤ length notes) × (length (namedIn page file transfer cheque) ≤ length list) × (number ≡ 0) × (rec ≡ 0)))))))))
+
+abbrev pub DefaultRefuses : Type 0
+DefaultRefuses =
+    (page : ℕ) (file transfer cheque out notes list out' notes' list' : List ℕ) (answer : Sorted) → Page page
+    → DefaultAs page file transfer cheque out notes list answer out' notes' list'
+    → (number rec : ℕ) → ((answer .number ≡ number) × (answer .rec ≡ rec)) ↔ Due page file transfer cheque out notes list number rec
