@@ -138,6 +138,11 @@ kept-has rule (t ∷ ts) (suc i) l e none = go (eqb (rule t) 0) none (kept-has r
     go true n h = omega arith
     go false n h = h n
 
+-- the walk refuses with a number
+real : {file : List ℕ} {m k : ℕ} → Tells file (Refused m k) → m ≡ 0 → ⊥
+real (inl t) z = omega (arith, t .1, z)
+real (inr t) z = t .1 .real z
+
 -- which payments are kept
 module _ (page : ℕ) (file transfer cheque : List ℕ) (n : ℕ) (e : structureOf file ≡ Fits n) where
   abbrev rule : List ℕ → ℕ
@@ -186,12 +191,12 @@ module _ (page : ℕ) (file transfer cheque out notes list : List ℕ) (there : 
       let is : answered ≡ unsorted m k = sym (off-eq _ (λ z. f (sym (ap (λ (s : Sorted). s .number) e) ∙ z)) refl) ∙ e in
       (ap (λ (s : Sorted). s .number) is, ap (λ (s : Sorted). s .rec) is)
 
-  shaped : (s : Shape) → structureOf file ≡ s → sortOf page file transfer cheque ≡ sortBy s page file transfer cheque
+  pub shaped : (s : Shape) → structureOf file ≡ s → sortOf page file transfer cheque ≡ sortBy s page file transfer cheque
   unfolding sortOf
   shaped s e = sym (on (unsorted 7 0) there refl) ∙ ap (λ (s : Shape). sortBy s page file transfer cheque) e
 
   -- the rooms of a file that goes on
-  by-rooms : sortOf page file transfer cheque ≡ goesOn page file transfer cheque
+  pub by-rooms : sortOf page file transfer cheque ≡ goesOn page file transfer cheque
       → answered
       ≡ cond (ltb (length out) (length K)) (unsorted 60 0)
       (cond (ltb (length notes) (length (notesOf page K))) (unsorted 61 0)
@@ -218,7 +223,7 @@ module _ (page : ℕ) (file transfer cheque out notes list : List ℕ) (there : 
 
   -- a file with n T records, by its tests
   module _ (n : ℕ) (e : structureOf file ≡ Fits n) where
-    at-q : (ruleAt page file n transfer cheque 0 ≡ 0 → ⊥) → sortOf page file transfer cheque ≡ unsorted (ruleAt page file n transfer cheque 0) 0
+    pub at-q : (ruleAt page file n transfer cheque 0 ≡ 0 → ⊥) → sortOf page file transfer cheque ≡ unsorted (ruleAt page file n transfer cheque 0) 0
     at-q f = shaped (Fits n) e ∙ sym (off-eq (behindQ page file n transfer cheque) f refl)
 
     past-q : ruleAt page file n transfer cheque 0 ≡ 0 → sortOf page file transfer cheque ≡ behindQ page file n transfer cheque
@@ -230,7 +235,7 @@ module _ (page : ℕ) (file transfer cheque out notes list : List ℕ) (there : 
       at-amount f = past-q q ∙ sym (off-eq _ f refl)
 
       module _ (a : noAmount file n ≡ 0) where
-        at-z : (ruleAt page file n transfer cheque (n + 1) ≡ 0 → ⊥) → sortOf page file transfer cheque ≡ unsorted (ruleAt page file n transfer cheque (n + 1)) (n + 1)
+        pub at-z : (ruleAt page file n transfer cheque (n + 1) ≡ 0 → ⊥) → sortOf page file transfer cheque ≡ unsorted (ruleAt page file n transfer cheque (n + 1)) (n + 1)
         unfolding behindQ
         at-z f = past-q q ∙ sym (on-eq (unsorted 33 (noAmount file n)) a (off-eq _ f refl))
 
@@ -242,7 +247,7 @@ module _ (page : ℕ) (file transfer cheque out notes list : List ℕ) (there : 
               ∙ sym (on-eq (unsorted 33 (noAmount file n)) a
               (on-eq (unsorted (ruleAt page file n transfer cheque (n + 1)) (n + 1)) z (on-eq (goesOn page file transfer cheque) k refl)))
 
-          at-last : (length (keptIn page file transfer cheque) ≡ 0 → ⊥) → sortOf page file transfer cheque ≡ goesOn page file transfer cheque
+          pub at-last : (length (keptIn page file transfer cheque) ≡ 0 → ⊥) → sortOf page file transfer cheque ≡ goesOn page file transfer cheque
           unfolding behindQ
           at-last f =
               past-q q
@@ -269,10 +274,6 @@ module _ (page : ℕ) (file transfer cheque out notes list : List ℕ) (there : 
   -- what is due is answered
   answers : (m k : ℕ) → DueHere m k → Answers m k
   answers m k (inl e) = refuses m k (real (rw e at (tells file))) (shaped (Refused m k) e)
-    where
-      real : Tells file (Refused m k) → m ≡ 0 → ⊥
-      real (inl t) z = omega (arith, t .1, z)
-      real (inr t) z = t .1 .real z
   answers m k (inr (inl (n, e, f, z))) =
       let q = q-is page file transfer cheque n m f in
       let w = refuses (ruleAt page file n transfer cheque 0) 0 (λ y. omega (arith, q, y, f .low)) (at-q n e (λ y. omega (arith, q, y, f .low))) in
@@ -315,6 +316,12 @@ module _ (page : ℕ) (file transfer cheque out notes list : List ℕ) (there : 
 
   -- and what is answered is due: a file with n T records, by its tests
   module _ (n : ℕ) (e : structureOf file ≡ Fits n) where
+    is-proper : ruleAt page file n transfer cheque 0 ≡ 0 → Proper page file transfer cheque n
+    is-proper z = record { fits = e; q-right = q-none page file transfer cheque n z }
+
+    is-sorts : ruleAt page file n transfer cheque 0 ≡ 0 → noAmount file n ≡ 0 → ruleAt page file n transfer cheque (n + 1) ≡ 0 → Sorts page file transfer cheque n
+    is-sorts z a b = record { proper = is-proper z; amounts = amounts-none page file transfer cheque n a; z-right = z-none page file transfer cheque n b }
+
     due-room : Goes page file transfer cheque n → sortOf page file transfer cheque ≡ goesOn page file transfer cheque → DueHere (answered .number) (answered .rec)
     due-room g is = go (ltb (length out) (length K)) (ltb (length notes) (length (notesOf page K))) (ltb (length list) (length (namedIn page file transfer cheque))) refl refl refl
       where
@@ -351,31 +358,25 @@ module _ (page : ℕ) (file transfer cheque out notes list : List ℕ) (there : 
             let z = eqb-true _ 0 p in
             let f = eqb-false _ 0 q in
             let w = refuses 33 (noAmount file n) (λ y. omega (arith, y)) (at-amount n e z f) in
-            inr (inr (inl (n, record { fits = e; q-right = q-none page file transfer cheque n z }, amount-first page file transfer cheque n (answered .rec) (w .1) (λ y. f (sym (w .1) ∙ y)), w .0)))
+            inr (inr (inl (n, is-proper z, amount-first page file transfer cheque n (answered .rec) (w .1) (λ y. f (sym (w .1) ∙ y)), w .0)))
         go true true false d p q r s =
             let z = eqb-true _ 0 p in
             let a = eqb-true _ 0 q in
             let f = eqb-false _ 0 r in
             let w = refuses (ruleAt page file n transfer cheque (n + 1)) (n + 1) f (at-z n e z a f) in
-            inr (inr (inr (inl (n, record { fits = e; q-right = q-none page file transfer cheque n z }, amounts-none page file transfer cheque n a, z-first page file transfer cheque n (answered .number) (w .0) (λ y. f (sym (w .0) ∙ y)), w .1))))
+            inr (inr (inr (inl (n, is-proper z, amounts-none page file transfer cheque n a, z-first page file transfer cheque n (answered .number) (w .0) (λ y. f (sym (w .0) ∙ y)), w .1))))
         go true true true true p q r s =
             let z = eqb-true _ 0 p in
             let a = eqb-true _ 0 q in
             let b = eqb-true _ 0 r in
             let w = refuses 43 0 (λ y. omega (arith, y)) (at-43 n e z a b (eqb-true _ 0 s)) in
-            inr (inr (inr (inr (inl (n, sorted z a b, (λ k l m h. kept-one page file transfer cheque n e k l m h (eqb-true _ 0 s)), w .0, w .1)))))
-          where
-            sorted : ruleAt page file n transfer cheque 0 ≡ 0 → noAmount file n ≡ 0 → ruleAt page file n transfer cheque (n + 1) ≡ 0 → Sorts page file transfer cheque n
-            sorted z a b =
-                record { proper = record { fits = e; q-right = q-none page file transfer cheque n z }; amounts = amounts-none page file transfer cheque n a; z-right = z-none page file transfer cheque n b }
+            inr (inr (inr (inr (inl (n, is-sorts z a b, (λ k l m h. kept-one page file transfer cheque n e k l m h (eqb-true _ 0 s)), w .0, w .1)))))
         go true true true false p q r s =
             let z = eqb-true _ 0 p in
             let a = eqb-true _ 0 q in
             let b = eqb-true _ 0 r in
             let f = eqb-false _ 0 s in
-            let t : Sorts page file transfer cheque n =
-                record { proper = record { fits = e; q-right = q-none page file transfer cheque n z }; amounts = amounts-none page file transfer cheque n a; z-right = z-none page file transfer cheque n b } in
-            due-room (one-kept page file transfer cheque n e f t) (at-last n e z a b f)
+            due-room (one-kept page file transfer cheque n e f (is-sorts z a b)) (at-last n e z a b f)
 
   due : DueHere (answered .number) (answered .rec)
   due = go (structureOf file) refl (tells file)
@@ -385,10 +386,6 @@ module _ (page : ℕ) (file transfer cheque out notes list : List ℕ) (there : 
       go (Refused m k) e t =
           let w = refuses m k (real t) (shaped (Refused m k) e) in
           inl (e ∙ (λ i. Refused (sym (w .0) i) (sym (w .1) i)))
-        where
-          real : Tells file (Refused m k) → m ≡ 0 → ⊥
-          real (inl t) z = omega (arith, t .1, z)
-          real (inr t) z = t .1 .real z
 
 pub default-refuses : DefaultRefuses
 default-refuses page file transfer cheque out notes list out' notes' list' answer there promise m k =

@@ -20,6 +20,7 @@ pub mod Settled
 pub mod Named
 pub mod Sorting
 pub mod Due
+pub mod AsStrict
 pub mod Reading
 pub mod Program
 pub mod Pointed

@@ -32,7 +32,7 @@ use Rattle.sorting.specs.Frame.{lengths, file-is, records-count}
 use Rattle.sorting.specs.Outcome.{finds-none}
 
 -- rule 33 holds only of amounts in digits
-amount-digits : (t : List ℕ) → rule33 t ≡ 0 → inDigits t ≡ true
+pub amount-digits : (t : List ℕ) → rule33 t ≡ 0 → inDigits t ≡ true
 unfolding rule33
 amount-digits t e = go (allOf Digit (inT T14a t)) (allOf Digit (inT T14b t)) _ e
   where
