@@ -139,7 +139,7 @@ kept-has rule (t ∷ ts) (suc i) l e none = go (eqb (rule t) 0) none (kept-has r
     go false n h = h n
 
 -- the walk refuses with a number
-real : {file : List ℕ} {m k : ℕ} → Tells file (Refused m k) → m ≡ 0 → ⊥
+pub real : {file : List ℕ} {m k : ℕ} → Tells file (Refused m k) → m ≡ 0 → ⊥
 real (inl t) z = omega (arith, t .1, z)
 real (inr t) z = t .1 .real z
 
@@ -285,8 +285,8 @@ module _ (page : ℕ) (file transfer cheque out notes list : List ℕ) (there : 
   answers m k (inr (inr (inr (inl (n, p, d, f, z))))) =
       let b = z-is page file transfer cheque n m f in
       let w =
-          refuses (ruleAt page file n transfer cheque (n + 1)) (n + 1) (λ y. omega (arith, b, y, f .low))
-          (at-z n (p .fits) (none-q page file transfer cheque n (p .q-right)) (none-amounts page file transfer cheque n d) (λ y. omega (arith, b, y, f .low))) in
+      refuses (ruleAt page file n transfer cheque (n + 1)) (n + 1) (λ y. omega (arith, b, y, f .low))
+      (at-z n (p .fits) (none-q page file transfer cheque n (p .q-right)) (none-amounts page file transfer cheque n d) (λ y. omega (arith, b, y, f .low))) in
       (w .0 ∙ b, w .1 ∙ sym z)
   answers m k (inr (inr (inr (inr (inl (n, s, h, z, y)))))) =
       let t = sorts-is n (s .proper .fits) s in
@@ -390,8 +390,7 @@ module _ (page : ℕ) (file transfer cheque out notes list : List ℕ) (there : 
 pub default-refuses : DefaultRefuses
 default-refuses page file transfer cheque out notes list out' notes' list' answer there promise m k =
     let p = is-page page there in
-    let is = promise .answer-is in
-    (
+    let is = promise .answer-is in (
       λ w.
           let number = sym (ap (λ (s : Sorted). s .number) is) ∙ w .0 in
           let rec = sym (ap (λ (s : Sorted). s .rec) is) ∙ w .1 in
