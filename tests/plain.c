@@ -1,6 +1,6 @@
-/* The second opinion of the comparison, written from document 01 and requests A1, A2 and A3 of document 02 alone, for
-   plainness and not for speed. The order is document 01's: records, character table, walk, rules, calls. Sentences of
-   the papers stand as comments beside what does them. */
+/* The second opinion of the comparison, written from document 01 and requests A1, A2, A3 and A5 of document 02 alone,
+   for plainness and not for speed. The order is document 01's: records, character table, walk, rules, calls. Sentences
+   of the papers stand as comments beside what does them. */
 #include "plain.h"
 
 /* ---- Lent memory. Only the four functions here read files, country lists and notes, or write to memory, and each of
@@ -9,7 +9,7 @@
 typedef struct { const uint8_t *bytes; size_t n; } lent;
 typedef struct { const uint32_t *numbers; size_t n; } lent_notes;
 typedef struct { uint8_t *bytes; size_t n; } room;
-typedef struct { uint32_t *numbers; size_t n; } note_room;
+typedef struct { uint32_t *numbers; size_t n; } number_room;
 
 /* The byte at a place; 0 outside of what was lent. */
 static uint8_t byte_at(lent l, size_t place)
@@ -30,11 +30,11 @@ static void put(room out, size_t place, uint8_t byte)
         out.bytes[place] = byte;
 }
 
-/* Writes a note at an index; nothing outside of the room. */
-static void put_note(note_room notes, size_t index, uint32_t note)
+/* Writes a number of 32 bits, a note or a returned payment, at an index; nothing outside of the room. */
+static void put_number(number_room list, size_t index, uint32_t number)
 {
-    if (index < notes.n)
-        notes.numbers[index] = note;
+    if (index < list.n)
+        list.numbers[index] = number;
 }
 
 /* ---- Records ---- */
@@ -723,19 +723,19 @@ uint64_t plain_judge(const uint8_t *file, size_t n,
     return judgement.record * 100 + judgement.number;
 }
 
-/* ---- Prepare ---- */
+/* ---- Prepare as in document 01, the strict way ---- */
 
 /* Each text field is replaced within its own stretch of the output. A note is place in the file * 256 + original byte.
    count is the number of changes before this field; the answer is the number after it. What has no room is counted
    and not written. */
-static size_t change_field(uint32_t page, rec r, stretch s, room out, note_room notes, size_t count)
+static size_t change_field(uint32_t page, rec r, stretch s, room out, number_room notes, size_t count)
 {
     for (size_t offset = s.first; offset <= s.last; offset++) {
         uint8_t byte = byte_of(r, offset);
         if (replaced(page, byte) != byte) {
             size_t place = r.start + offset;
             put(out, place, replaced(page, byte));
-            put_note(notes, count, (uint32_t)(place * 256 + byte));
+            put_number(notes, count, (uint32_t)(place * 256 + byte));
             count++;
         }
     }
@@ -743,7 +743,7 @@ static size_t change_field(uint32_t page, rec r, stretch s, room out, note_room 
 }
 
 /* Goes over all text fields of a sound file and answers the number of changes; with no room it only counts. */
-static size_t change_file(uint32_t page, lent file, uint64_t payments, room out, note_room notes)
+static size_t change_file(uint32_t page, lent file, uint64_t payments, room out, number_room notes)
 {
     size_t count = 0;
     for (uint64_t record = 0; record <= payments; record++) {
@@ -758,7 +758,7 @@ static size_t change_file(uint32_t page, lent file, uint64_t payments, room out,
 /* How many characters the table would change in a sound file. */
 static size_t changes_of(uint32_t page, lent file, uint64_t payments)
 {
-    return change_file(page, file, payments, (room){NULL, 0}, (note_room){NULL, 0});
+    return change_file(page, file, payments, (room){NULL, 0}, (number_room){NULL, 0});
 }
 
 static void copy(lent from, room to)
@@ -767,33 +767,190 @@ static void copy(lent from, room to)
         put(to, place, byte_at(from, place));
 }
 
+/* Then 60, then 61, for a sound file; 0 where there is room enough. */
+static uint64_t too_little_room(uint32_t page, lent file, uint64_t payments, room out, number_room notes)
+{
+    /* 60: output room shorter than the file */
+    if (out.n < file.n)
+        return 60;
+    /* 61: more changes than note places lent */
+    if (changes_of(page, file, payments) > notes.n)
+        return 61;
+    return 0;
+}
+
+/* The output begins with the forwarded file and the rest of it keeps its bytes; the note places begin with the notes
+   and the rest keep their numbers. Answers the number of notes. */
+static size_t forward(uint32_t page, lent file, uint64_t payments, room out, number_room notes)
+{
+    copy(file, out);
+    return change_file(page, file, payments, out, notes);
+}
+
 /* Reads soundness, then 60, then 61, each only in that case; record 0 for both and for success. */
-static plain_prepared prepare(uint32_t page, lent file, country_lists lists, room out, note_room notes)
+static plain_strict prepare_strict(uint32_t page, lent file, country_lists lists, room out, number_room notes)
+{
+    /* Any other page number is 7, before every other number. */
+    if (!page_exists(page))
+        return (plain_strict){.number = 7};
+    plain_judgement judgement = soundness(page, file, lists);
+    if (judgement.number != 0)
+        return (plain_strict){.number = judgement.number, .record = judgement.record};
+    uint64_t number = too_little_room(page, file, judgement.payments, out, notes);
+    if (number != 0)
+        return (plain_strict){.number = number};
+    size_t changes = forward(page, file, judgement.payments, out, notes);
+    return (plain_strict){.number = 0, .record = 0, .notes = changes};
+}
+
+plain_strict plain_prepare_strict(uint32_t page, const uint8_t *file, size_t n,
+                                  const uint8_t *transfer, size_t nt, const uint8_t *cheque, size_t nc,
+                                  uint8_t *out, size_t out_n, uint32_t *notes, size_t notes_n)
+{
+    return prepare_strict(page, (lent){file, n}, lists_of(transfer, nt, cheque, nc),
+                          (room){out, out_n}, (number_room){notes, notes_n});
+}
+
+/* ---- Prepare, the default way: send the good ones ---- */
+
+/* A non-digit in T14, which is T14a and T14b. */
+static bool has_non_digit_in_t14(rec t)
+{
+    return !every(t, T14a, is_digit) || !every(t, T14b, is_digit);
+}
+
+/* Refusals: structure, Q rules, the 33 for a non-digit by rising record, then 40 to 42, of the file as it is submitted.
+   If 0, the number of payments is told. */
+static plain_judgement before_sorting(uint32_t page, lent file)
+{
+    plain_judgement structure = walk(file);
+    if (structure.number != 0)
+        return structure;
+    uint64_t payments = structure.payments;
+    finding in_q = q_rules(page, numbered(file, 0));
+    if (in_q.number != 0)
+        return refused_by(in_q, 0);
+    /* A non-digit in T14 still refuses the file, with 33 and that record, whatever else it breaks. */
+    for (uint64_t record = 1; record <= payments; record++)
+        if (has_non_digit_in_t14(numbered(file, record)))
+            return refused(33, record);
+    finding in_z = z_rules(numbered(file, payments + 1), payments);
+    if (in_z.number != 0)
+        return refused_by(in_z, payments + 1);
+    return structure;
+}
+
+/* A submitted file that none of these refuses. */
+typedef struct { uint32_t page; lent file; uint64_t payments; country_lists lists; } submission;
+
+/* The first broken rule of 20 to 35, for which the payment is returned; 0 where it is kept. */
+static uint64_t first_broken(submission s, uint64_t record)
+{
+    /* Rule 21 compares with record 1 even if that one is returned. */
+    return t_rules(s.page, numbered(s.file, record), numbered(s.file, 1), s.lists).number;
+}
+
+/* The answer adds counts and euros, kept and returned. */
+static plain_prepared counts_and_euros(submission s)
+{
+    plain_prepared counted = {.number = 0};
+    for (uint64_t record = 1; record <= s.payments; record++) {
+        uint64_t euros = value(numbered(s.file, record), T14a);
+        if (first_broken(s, record) == 0) {
+            counted.kept++;
+            counted.kept_euros += euros;
+        } else {
+            counted.returned++;
+            counted.returned_euros += euros;
+        }
+    }
+    return counted;
+}
+
+/* Each is named in a lent list of 32-bit numbers, record * 100 + first broken rule, rising; places beyond stay. */
+static void name_returned(submission s, number_room list)
+{
+    size_t count = 0;
+    for (uint64_t record = 1; record <= s.payments; record++) {
+        uint64_t rule = first_broken(s, record);
+        if (rule != 0) {
+            put_number(list, count, (uint32_t)(record * 100 + rule));
+            count++;
+        }
+    }
+}
+
+/* Memory of its own: the kept file. */
+static uint8_t own_kept[LONGEST_FILE];
+
+/* Writes a record of the submitted file to a place of another; the answer is the place behind it. */
+static size_t append(rec r, room to, size_t place)
+{
+    size_t length = length_for(letter_of(r));
+    for (size_t offset = 0; offset < length; offset++)
+        put(to, place + offset, byte_of(r, offset));
+    return place + length;
+}
+
+/* Writes a number into a field of the record that starts at this place, with zeros before it. */
+static void put_digits(room to, size_t start, stretch s, uint64_t number)
+{
+    for (size_t offset = s.last; offset >= s.first; offset--) {
+        put(to, start + offset, (uint8_t)('0' + number % 10));
+        number /= 10;
+    }
+}
+
+/* The kept file is Q, the kept T records in their order and a Z with fresh Z3 and Z4. */
+static lent kept_file(submission s, plain_prepared counted)
+{
+    room kept = {own_kept, LONGEST_FILE};
+    size_t z = append(numbered(s.file, 0), kept, 0);
+    for (uint64_t record = 1; record <= s.payments; record++)
+        if (first_broken(s, record) == 0)
+            z = append(numbered(s.file, record), kept, z);
+    size_t end = append(numbered(s.file, s.payments + 1), kept, z);
+    put_digits(kept, z, Z3, counted.kept_euros);
+    put_digits(kept, z, Z4, counted.kept);
+    return (lent){own_kept, end};
+}
+
+/* When only T rules are broken, those records come back and the rest goes on. */
+static plain_prepared prepare(uint32_t page, lent file, country_lists lists,
+                              room out, number_room notes, number_room list)
 {
     /* Any other page number is 7, before every other number. */
     if (!page_exists(page))
         return (plain_prepared){.number = 7};
-    plain_judgement judgement = soundness(page, file, lists);
+    plain_judgement judgement = before_sorting(page, file);
     if (judgement.number != 0)
         return (plain_prepared){.number = judgement.number, .record = judgement.record};
-    /* 60: output room shorter than the file */
-    if (out.n < file.n)
-        return (plain_prepared){.number = 60};
-    /* 61: more changes than note places lent */
-    size_t changes = changes_of(page, file, judgement.payments);
-    if (changes > notes.n)
-        return (plain_prepared){.number = 61};
-    copy(file, out);
-    change_file(page, file, judgement.payments, out, notes);
-    return (plain_prepared){.number = 0, .record = 0, .notes = changes};
+    submission s = {page, file, judgement.payments, lists};
+    plain_prepared answer = counts_and_euros(s);
+    /* then 43, record 0, when every T record would be returned; */
+    if (answer.kept == 0)
+        return (plain_prepared){.number = 43};
+    /* then 60 and 61, measured on the kept file; */
+    lent kept = kept_file(s, answer);
+    uint64_t number = too_little_room(page, kept, answer.kept, out, notes);
+    if (number != 0)
+        return (plain_prepared){.number = number};
+    /* then 63, record 0, when the list is too short. */
+    if (list.n < answer.returned)
+        return (plain_prepared){.number = 63};
+    name_returned(s, list);
+    /* The kept file is sound, and demands 2 and 3 and note places are read from it. */
+    answer.notes = forward(page, kept, answer.kept, out, notes);
+    return answer;
 }
 
 plain_prepared plain_prepare(uint32_t page, const uint8_t *file, size_t n,
-                           const uint8_t *transfer, size_t nt, const uint8_t *cheque, size_t nc,
-                           uint8_t *out, size_t out_n, uint32_t *notes, size_t notes_n)
+                             const uint8_t *transfer, size_t nt, const uint8_t *cheque, size_t nc,
+                             uint8_t *out, size_t out_n, uint32_t *notes, size_t notes_n,
+                             uint32_t *returned, size_t returned_n)
 {
-    return prepare(page, (lent){file, n}, lists_of(transfer, nt, cheque, nc),
-                   (room){out, out_n}, (note_room){notes, notes_n});
+    return prepare(page, (lent){file, n}, lists_of(transfer, nt, cheque, nc), (room){out, out_n},
+                   (number_room){notes, notes_n}, (number_room){returned, returned_n});
 }
 
 /* ---- Read a file as it arrives ---- */
@@ -878,11 +1035,12 @@ static size_t lesser(size_t a, size_t b)
     return a < b ? a : b;
 }
 
-/* The original, judged and prepared anew, yields this very pair, byte for byte and number by number. */
+/* Restore stays strict: the original, judged and prepared anew, yields this very pair, byte for byte and number by
+   number. */
 static bool yields(uint32_t page, lent original, country_lists lists, lent forwarded, lent_notes notes)
 {
-    plain_prepared anew = prepare(page, original, lists, (room){own_forwarded, LONGEST_FILE},
-                                  (note_room){own_notes, MOST_NOTES});
+    plain_strict anew = prepare_strict(page, original, lists, (room){own_forwarded, LONGEST_FILE},
+                                       (number_room){own_notes, MOST_NOTES});
     /* Refused is unsound, for its own memory has room enough. */
     if (anew.number != 0)
         return false;

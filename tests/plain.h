@@ -1,9 +1,10 @@
 /* The second opinion of the comparison: the calls of document 01 in plain C, written from document 01 and requests A1,
-   A2 and A3 of document 02 alone, for plainness and not for speed.
+   A2, A3 and A5 of document 02 alone, for plainness and not for speed.
 
    In every call a file or a list is lent as a pointer and its length; with length 0 the pointer is not followed.
    transfer and cheque are the country lists, two bytes a country, a lone last byte ignored. Memory lent for writing
-   (out, notes) must not overlap anything else that is lent. A refused call writes nothing to it.
+   (out, notes, returned) must not overlap anything else that is lent. A refused call writes nothing to it. Prepare and
+   restore work in memory of their own that they hold once: not for two threads at a time.
 
    page is the code page: 0 for DIN 66003, 1 for ISO 8859-1. Any other is 7, before every other number; all other
    numbers of the answer are then 0. */
@@ -16,7 +17,8 @@
 
 typedef struct { uint64_t number, record, at, payments, euros, cents; } plain_judgement;
 typedef struct { uint64_t number, record, at, payments, euros, cents, changes; } plain_answer;
-typedef struct { uint64_t number, record, notes; } plain_prepared;
+typedef struct { uint64_t number, record, notes; } plain_strict;
+typedef struct { uint64_t number, record, notes, kept, returned, kept_euros, returned_euros; } plain_prepared;
 typedef struct { uint64_t number, record; } plain_restored;
 typedef struct { uint64_t start, length; } plain_part;   /* length 0: no such field; then start is 0 too */
 
@@ -47,15 +49,26 @@ typedef struct {
    by the country lists of the cut that completes it. */
 plain_answer plain_read_in_steps(uint32_t page, const uint8_t *bytes, const plain_step *steps, size_t steps_n);
 
-/* Prepare: 7, then soundness, then 60, then 61. An unsound file tells its record; 60, 61 and success have record 0.
-   If 0, out begins with the forwarded file and notes begins with the notes; the rest of both is left as it was.
-   The answer's notes is their number, 0 when refused. */
-plain_prepared plain_prepare(uint32_t page, const uint8_t *file, size_t n,
-                           const uint8_t *transfer, size_t nt, const uint8_t *cheque, size_t nc,
-                           uint8_t *out, size_t out_n, uint32_t *notes, size_t notes_n);
+/* Prepare as in document 01: 7, then soundness, then 60, then 61. An unsound file tells its record; 60, 61 and success
+   have record 0. If 0, out begins with the forwarded file and notes begins with the notes; the rest of both is left as
+   it was. The answer's notes is their number, 0 when refused. */
+plain_strict plain_prepare_strict(uint32_t page, const uint8_t *file, size_t n,
+                                  const uint8_t *transfer, size_t nt, const uint8_t *cheque, size_t nc,
+                                  uint8_t *out, size_t out_n, uint32_t *notes, size_t notes_n);
 
-/* Restore: 7, then 60, then 70; the record is always 0. If 0, out begins with the original; the rest is left as it was.
-   All lent notes count. It works in memory of its own that it holds once: not for two threads at a time. */
+/* Prepare, the default way: payments that break a rule of 20 to 35 are returned, the rest goes on as the kept file, with
+   Z3 and Z4 of its own; out and notes are those of the strict way for it. returned begins with record * 100 + first
+   broken rule of each returned payment, rising; the rest is left as it was. 7, then structure, the Q rules, 33 for a
+   non-digit in T14a or T14b by rising record, 40 to 42 of the submitted file; then 43 where none is kept, 60 and 61 of
+   the kept file, and 63 where returned has too few places, these four at record 0. Refused: notes, counts and euros are
+   0. */
+plain_prepared plain_prepare(uint32_t page, const uint8_t *file, size_t n,
+                             const uint8_t *transfer, size_t nt, const uint8_t *cheque, size_t nc,
+                             uint8_t *out, size_t out_n, uint32_t *notes, size_t notes_n,
+                             uint32_t *returned, size_t returned_n);
+
+/* Restore, of what the strict way leaves: 7, then 60, then 70; the record is always 0. If 0, out begins with the
+   original; the rest is left as it was. All lent notes count. */
 plain_restored plain_restore(uint32_t page, const uint8_t *forwarded, size_t n, const uint32_t *notes, size_t notes_n,
                            const uint8_t *transfer, size_t nt, const uint8_t *cheque, size_t nc,
                            uint8_t *out, size_t out_n);
