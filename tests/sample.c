@@ -80,7 +80,7 @@ void sample_t(uint8_t *t, payment_kind kind, const char *country, uint64_t euros
     put(t + 766, "00");
 }
 
-void sample_z(uint8_t *file, size_t payments)
+uint64_t euros_of(const uint8_t *file, size_t payments)
 {
     uint64_t euros = 0;
     for (size_t p = 0; p < payments; p++) {
@@ -89,9 +89,14 @@ void sample_z(uint8_t *file, size_t payments)
             amount = amount * 10 + (uint64_t)(file[256 + p * 768 + i] - '0');
         euros += amount;
     }
+    return euros;
+}
+
+void sample_z(uint8_t *file, size_t payments)
+{
     uint8_t *z = file + 256 + payments * 768;
     memset(z, ' ', 256);
     put(z, "0256Z");
-    put_number(z + 5, 15, euros);
+    put_number(z + 5, 15, euros_of(file, payments));
     put_number(z + 20, 15, payments);
 }

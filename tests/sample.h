@@ -24,7 +24,10 @@ void sample_q(uint8_t *q);
 typedef enum { BIC_ALONE, BIC_AND_COUNTRY, CODE_AND_BANK, CHEQUE } payment_kind;
 void sample_t(uint8_t *t, payment_kind kind, const char *country, uint64_t euros, unsigned cents);
 
-/* Z after the given payments, with their count and the sum of their T14a. */
+/* The sum of T14a over the given payments. */
+uint64_t euros_of(const uint8_t *file, size_t payments);
+
+/* Z after the given payments, with their count and that sum. */
 void sample_z(uint8_t *file, size_t payments);
 
 #endif

@@ -204,7 +204,7 @@ static void answers_of_the_example(void)
     due(0, 0, 1);
     due_output(draft, draft_n);
     due_notes((const uint32_t[]){316198}, 1);
-    prepare(draft_n, 1);
+    prepare_both_ways(draft_n, 1);
 }
 
 static void short_files(void)
@@ -338,7 +338,7 @@ void named_cases(void)
 
 static void long_sound_file(void)
 {
-    long_draft();
+    long_draft(MOST_PAYMENTS);
     lend_draft();
     lend_taken(NULL, 0);
     due(0);

@@ -16,15 +16,15 @@
 
 enum { APRON = 64 };                                /* watched bytes before an output */
 enum { DESK, PLAIN, SIDES };
-enum { ANSWER_DUE = LENT, OUTPUT_DUE, NOTES_DUE, STRETCHES };
+enum { ANSWER_DUE = LENT, OUTPUT_DUE, NOTES_DUE, RETURNED_DUE, STRETCHES };
 
 typedef struct { uint8_t *write, *lent; } area;     /* both are the end of the memory */
 
 static const size_t most_bytes[STRETCHES] = {
     MOST_FED, SPARE, SPARE, SPARE, 4 * MOST_NOTES + SPARE, SPARE, SPARE, SPARE, SPARE,
-    SPARE, MOST_FILE + SPARE, 4 * MOST_NOTES + SPARE
+    SPARE, MOST_FILE + SPARE, 4 * MOST_NOTES + SPARE, SPARE
 };
-static area stretch[STRETCHES], cut, output[SIDES], note_places[SIDES];
+static area stretch[STRETCHES], cut, output[SIDES], note_places[SIDES], list_places[SIDES];
 static uint8_t pattern[4 * MOST_NOTES + SPARE];     /* what outputs hold before a call */
 
 static void *mapped(void *p)
@@ -53,21 +53,24 @@ static area make_area(size_t bytes, bool read_only)
 
 /* ---- One request -------------------------------------------------------------------------- */
 
-static const char *const call_name[CALLS] = {"judge", "judge_full", "prepare", "restore", "show", "read_in_steps"};
+static const char *const call_name[CALLS] = {
+    "judge", "judge_full", "prepare", "prepare_strict", "restore", "show", "read_in_steps"
+};
 static const char *const stretch_name[STRETCHES] = {
     "file", "transfer", "cheque", "taken", "notes", "other-transfer", "other-cheque", "other-taken", "steps",
-    "answer-due", "output-due", "notes-due"
+    "answer-due", "output-due", "notes-due", "returned-due"
 };
 enum { NUMBERS = 7 };
 static const char *const answer_name[CALLS][NUMBERS] = {
-    {"code"}, {"number", "record", "at", "payments", "euros", "cents"}, {"number", "record", "notes"},
+    {"code"}, {"number", "record", "at", "payments", "euros", "cents"},
+    {"number", "record", "notes", "kept", "returned", "euros kept", "euros returned"}, {"number", "record", "notes"},
     {"number", "record"}, {"start", "length"}, {"number", "record", "at", "payments", "euros", "cents", "changes"}
 };
 
 typedef struct {
     int call;
     uint32_t page;                                  /* the code page */
-    size_t room, places;                            /* room in bytes, places in notes */
+    size_t room, places, list;                      /* room in bytes, places in notes, list in returned payments */
     uint64_t record, field;
     size_t shift;                                   /* bytes between the file and the closed page */
     size_t size[STRETCHES];                         /* bytes */
@@ -84,6 +87,7 @@ static size_t back(int which) { return now.size[which] + (which == FILE_IN ? now
 static const void *lent(int which) { return stretch[which].lent - back(which); }
 static uint8_t *out_of(int side) { return output[side].lent - now.room; }
 static uint32_t *notes_of(int side) { return (uint32_t *)(void *)(note_places[side].lent - 4 * now.places); }
+static uint32_t *list_of(int side) { return (uint32_t *)(void *)(list_places[side].lent - 4 * now.list); }
 
 void lend(int which, const void *bytes, size_t n)
 {
@@ -104,11 +108,13 @@ uint32_t code_page(void) { return now.page; }
 void due_numbers(const uint64_t *numbers, size_t n) { lend(ANSWER_DUE, numbers, 8 * n); }
 void due_output(const uint8_t *bytes, size_t n) { lend(OUTPUT_DUE, bytes, n); }
 void due_notes(const uint32_t *notes, size_t n) { lend(NOTES_DUE, notes, 4 * n); }
+void due_returned(const uint32_t *payments, size_t n) { lend(RETURNED_DUE, payments, 4 * n); }
 
 static void fill_outputs(int side)
 {
     memcpy(out_of(side) - APRON, pattern, APRON + now.room);
     memcpy((uint8_t *)notes_of(side) - APRON, pattern, APRON + 4 * now.places);
+    memcpy((uint8_t *)list_of(side) - APRON, pattern, APRON + 4 * now.list);
 }
 
 const uint8_t *lent_cut(const uint8_t *bytes, size_t n)
@@ -157,6 +163,10 @@ static void ask(int side)
         break;
     case PREPARE:
         ASK(prepare, prepared, now.page, file, n, transfer, nt, cheque, nc, out_of(side), now.room,
+            notes_of(side), now.places, list_of(side), now.list);
+        break;
+    case PREPARE_STRICT:
+        ASK(prepare_strict, strict, now.page, file, n, transfer, nt, cheque, nc, out_of(side), now.room,
             notes_of(side), now.places);
         break;
     case RESTORE:
@@ -176,6 +186,7 @@ static void ask(int side)
 /* The call for payroll hosts stays on page 0, and show reads no table. */
 static bool names_page(void) { return now.call != JUDGE && now.call != SHOW; }
 static bool judges_fully(void) { return now.call == JUDGE_FULL || now.call == READ; }
+static bool prepares(void) { return now.call == PREPARE || now.call == PREPARE_STRICT; }
 
 /* ---- Differences -------------------------------------------------------------------------- */
 
@@ -215,8 +226,9 @@ static void keep_case(const char *what)
         perror(name);
         return;
     }
-    fprintf(f, "# %s\ncall %s\npage %" PRIu32 "\nroom %zu\nplaces %zu\nrecord %" PRIu64 "\nfield %" PRIu64 "\nshift %zu\n",
-            what, call_name[now.call], now.page, now.room, now.places, now.record, now.field, now.shift);
+    fprintf(f, "# %s\ncall %s\npage %" PRIu32 "\nroom %zu\nplaces %zu\nlist %zu\nrecord %" PRIu64 "\nfield %" PRIu64
+            "\nshift %zu\n", what, call_name[now.call], now.page, now.room, now.places, now.list, now.record, now.field,
+            now.shift);
     for (int i = 0; i < STRETCHES; i++)
         write_stretch(f, i);
     if (fclose(f) == 0)
@@ -278,25 +290,66 @@ static void check_kept(int side, const char *name, const uint8_t *bytes, size_t 
     differ(text);
 }
 
+static void check_notes(int side)
+{
+    const uint64_t *a = answer[side];
+    const uint32_t *notes = notes_of(side);
+    check_kept(side, "note places", (const uint8_t *)notes, 4 * now.places, a[0] ? 0 : 4 * a[2]);
+    if (a[0] && a[2])
+        differ("notes counted though refused");
+    for (uint64_t i = 0; i + 1 < a[2]; i++)
+        if (notes[i] / 256 >= notes[i + 1] / 256)
+            differ("notes do not rise");
+}
+
+static void check_list(const uint32_t *list, uint64_t count)
+{
+    for (uint64_t i = 0; i < count; i++) {
+        if (list[i] % 100 < 20 || list[i] % 100 > 35)
+            differ("a payment is returned by another rule than 20 to 35");
+        if (list[i] / 100 <= (i ? list[i - 1] / 100 : 0) || list[i] / 100 > payments_of(now.size[FILE_IN]))
+            differ("returned payments do not rise, or are not there");
+    }
+}
+
+/* Which payments are returned is for the papers to say; all else that the default way answers and leaves follows from it. */
+static void check_sorted(int side)
+{
+    static sent wanted;
+    const uint64_t *a = answer[side];
+    const uint32_t *list = list_of(side);
+    size_t n = now.size[FILE_IN];
+    check_kept(side, "list places", (const uint8_t *)list, 4 * now.list, a[0] ? 0 : 4 * a[4]);
+    if (a[0] && (a[3] || a[4] || a[5] || a[6]))
+        differ("payments or euros counted though refused");
+    if (a[0] && !may_refuse_sorting(lent(FILE_IN), n, a[0], a[1]))
+        differ("the default way refuses no file with this number at this record");
+    if (a[0])
+        return;
+    if (n < file_bytes(1) || n != file_bytes(payments_of(n)))
+        differ("no file has this length");
+    check_list(list, a[4]);
+    send_all_but(now.page, lent(FILE_IN), n, list, a[4], &wanted);
+    if (a[3] == 0 || memcmp(a, wanted.answer, sizeof wanted.answer) != 0)
+        differ("notes, payments or euros are not those of the kept file and of the returned payments");
+    if (memcmp(out_of(side), wanted.forwarded, wanted.n) != 0 || memcmp(notes_of(side), wanted.notes, 4 * a[2]) != 0)
+        differ("output or notes are not those of the kept file");
+}
+
 /* What holds of every answer, whatever was lent. */
 static void check_answer(int side)
 {
     const uint64_t *a = answer[side];
-    bool writes = now.call == PREPARE || now.call == RESTORE;
-    if (writes)
-        check_kept(side, "output bytes", out_of(side), now.room, a[0] ? 0 : now.size[FILE_IN]);
-    if (now.call == PREPARE) {
-        const uint32_t *notes = notes_of(side);
-        check_kept(side, "note places", (const uint8_t *)notes, 4 * now.places, a[0] ? 0 : 4 * a[2]);
-        if (a[0] && a[2])
-            differ("notes counted though refused");
-        for (uint64_t i = 0; i + 1 < a[2]; i++)
-            if (notes[i] / 256 >= notes[i + 1] / 256)
-                differ("notes do not rise");
-    }
+    size_t sent_n = now.call == PREPARE ? file_bytes(a[3]) : now.size[FILE_IN];
+    if (prepares() || now.call == RESTORE)
+        check_kept(side, "output bytes", out_of(side), now.room, a[0] ? 0 : sent_n);
+    if (prepares())
+        check_notes(side);
+    if (now.call == PREPARE)
+        check_sorted(side);
     if (names_page() && (a[0] == 7) != (now.page >= PAGES))
         differ("7 is told exactly where there is no such page");
-    if (names_page() && (a[0] == 0 || a[0] == 7 || a[0] >= 50) && a[1] != 0)
+    if (names_page() && (a[0] == 0 || a[0] == 7 || a[0] >= 43) && a[1] != 0)
         differ("record 0 expected");
     if (judges_fully() && a[0] && (a[3] || a[4] || a[5] || a[6]))
         differ("sums or changes answered though refused");
@@ -333,6 +386,7 @@ static void check_due(int side)
         }
     check_due_bytes(side, "output", OUTPUT_DUE, out_of(side), now.room);
     check_due_bytes(side, "note places", NOTES_DUE, notes_of(side), 4 * now.places);
+    check_due_bytes(side, "list places", RETURNED_DUE, list_of(side), 4 * now.list);
 }
 
 /* ---- The call ----------------------------------------------------------------------------- */
@@ -354,34 +408,37 @@ static const uint64_t *run(void)
         fill_outputs(side);
         ask(side);
     }
-    if (now.size[ANSWER_DUE] + now.size[OUTPUT_DUE] + now.size[NOTES_DUE] > 0)
-        for (int side = 0; side < SIDES; side++)
-            check_due(side);
+    for (int side = 0; side < SIDES; side++)
+        check_due(side);
     if (memcmp(answer[DESK], answer[PLAIN], sizeof answer[DESK]) != 0)
         differ("answers");
     for (int side = 0; side < SIDES; side++)
         check_answer(side);
     check_sides_agree("output bytes", out_of(DESK), out_of(PLAIN), now.room);
     check_sides_agree("note places", (uint8_t *)notes_of(DESK), (uint8_t *)notes_of(PLAIN), 4 * now.places);
-    now.size[ANSWER_DUE] = now.size[OUTPUT_DUE] = now.size[NOTES_DUE] = 0;
+    check_sides_agree("list places", (uint8_t *)list_of(DESK), (uint8_t *)list_of(PLAIN), 4 * now.list);
+    for (int due = ANSWER_DUE; due < STRETCHES; due++)
+        now.size[due] = 0;
     return answer[DESK];
 }
 
-static const uint64_t *call_with(int call, size_t room, size_t places, uint64_t record, uint64_t field)
+static const uint64_t *call_with(int call, size_t room, size_t places, size_t list, uint64_t record, uint64_t field)
 {
     now.call = call;
     now.room = room;
     now.places = places;
+    now.list = list;
     now.record = record;
     now.field = field;
     return run();
 }
 
-const uint64_t *judge(void) { return call_with(JUDGE, 0, 0, 0, 0); }
-const uint64_t *judge_full(void) { return call_with(JUDGE_FULL, 0, 0, 0, 0); }
-const uint64_t *prepare(size_t room, size_t places) { return call_with(PREPARE, room, places, 0, 0); }
-const uint64_t *restore(size_t room) { return call_with(RESTORE, room, 0, 0, 0); }
-const uint64_t *show(uint64_t record, uint64_t field) { return call_with(SHOW, 0, 0, record, field); }
+const uint64_t *judge(void) { return call_with(JUDGE, 0, 0, 0, 0, 0); }
+const uint64_t *judge_full(void) { return call_with(JUDGE_FULL, 0, 0, 0, 0, 0); }
+const uint64_t *prepare(size_t room, size_t places, size_t list) { return call_with(PREPARE, room, places, list, 0, 0); }
+const uint64_t *prepare_strict(size_t room, size_t places) { return call_with(PREPARE_STRICT, room, places, 0, 0, 0); }
+const uint64_t *restore(size_t room) { return call_with(RESTORE, room, 0, 0, 0, 0); }
+const uint64_t *show(uint64_t record, uint64_t field) { return call_with(SHOW, 0, 0, 0, record, field); }
 
 const uint64_t *read_in_steps(const step *steps, size_t n)
 {
@@ -393,7 +450,7 @@ const uint64_t *read_in_steps(const step *steps, size_t n)
         exit(2);
     }
     lend(STEPS, steps, n * sizeof *steps);
-    return call_with(READ, 0, 0, 0, 0);
+    return call_with(READ, 0, 0, 0, 0, 0);
 }
 
 const uint8_t *output_left(void) { return out_of(DESK); }
@@ -410,6 +467,7 @@ void open_areas(const char *cases)
     for (int s = 0; s < SIDES; s++) {
         output[s] = make_area(MOST_FILE + SPARE, false);
         note_places[s] = make_area(4 * MOST_NOTES + SPARE, false);
+        list_places[s] = make_area(SPARE, false);
     }
     for (size_t i = 0; i + 8 <= sizeof pattern; i += 8) {
         uint64_t eight = next_random(&state);
@@ -444,15 +502,17 @@ static bool read_stretch(FILE *f, int which)
 
 static bool read_figures(FILE *f)
 {
-    uint64_t page, room, places, shift;
+    uint64_t page, room, places, list, shift;
     if (!read_number(f, "page", &page) || !read_number(f, "room", &room) || !read_number(f, "places", &places) ||
-        !read_number(f, "record", &now.record) || !read_number(f, "field", &now.field) ||
-        !read_number(f, "shift", &shift))
+        !read_number(f, "list", &list) || !read_number(f, "record", &now.record) ||
+        !read_number(f, "field", &now.field) || !read_number(f, "shift", &shift))
         return false;
-    now.page = (uint32_t)page, now.room = (size_t)room, now.places = (size_t)places, now.shift = (size_t)shift;
-    printf("page %" PRIu64 ", room %" PRIu64 ", places %" PRIu64 ", record %" PRIu64 ", field %" PRIu64
-           ", shift %" PRIu64 "\n", page, room, places, now.record, now.field, shift);
-    return page <= UINT32_MAX && room <= MOST_FILE + SPARE / 2 && places <= MOST_NOTES + SPARE / 8 && shift <= SPARE / 2;
+    now.page = (uint32_t)page, now.room = (size_t)room, now.places = (size_t)places, now.list = (size_t)list;
+    now.shift = (size_t)shift;
+    printf("page %" PRIu64 ", room %" PRIu64 ", places %" PRIu64 ", list %" PRIu64 ", record %" PRIu64 ", field %" PRIu64
+           ", shift %" PRIu64 "\n", page, room, places, list, now.record, now.field, shift);
+    return page <= UINT32_MAX && room <= MOST_FILE + SPARE / 2 && places <= MOST_NOTES + SPARE / 8 &&
+           list <= SPARE / 8 && shift <= SPARE / 2;
 }
 
 /* Reads a kept case into the request; says what it reads. */
@@ -489,8 +549,10 @@ static void print_run(int side)
     fill_outputs(side);
     ask(side);
     print_answer(side);
-    for (uint64_t i = 0; now.call == PREPARE && i < answer[side][2] && i < now.places && i < 10; i++)
+    for (uint64_t i = 0; prepares() && i < answer[side][2] && i < now.places && i < 10; i++)
         printf("  note: place %u, byte %u\n", notes_of(side)[i] / 256, notes_of(side)[i] % 256);
+    for (uint64_t i = 0; now.call == PREPARE && i < answer[side][4] && i < now.list && i < 10; i++)
+        printf("  returned: record %u, rule %u\n", list_of(side)[i] / 100, list_of(side)[i] % 100);
 }
 
 int replay(const char *name)

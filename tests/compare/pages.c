@@ -68,7 +68,7 @@ static void prepare_by_number(verdict told, size_t room, size_t places)
         told.rule = room < draft_n ? 60 : places < CHANGED ? 61 : 0;
     told = by_number(told);
     due(told.rule, told.record, told.rule ? 0 : CHANGED);
-    prepare(room, places);
+    prepare_both_ways(room, places);
 }
 
 /* What is lent is the file itself, and no pair. */
@@ -149,7 +149,7 @@ void random_page_number(void)
     due(7, 0, 0, 0, 0, 0);
     judge_and_read();
     due(7, 0, 0);
-    prepare(room, places);
+    prepare_both_ways(room, places);
     due(7, 0);
     restore(room);
     use_page(page);
@@ -193,7 +193,7 @@ static void change_one(uint32_t page, size_t at, const character *c)
     due(0, 0, 1);
     due_output(forwarded, draft_n);
     due_notes(&note, 1);
-    prepare(draft_n, 1);
+    prepare_both_ways(draft_n, 1);
     lend(FILE_IN, forwarded, draft_n);
     lend(NOTES_IN, &note, 4);
     restore_on(page, true);

@@ -24,7 +24,7 @@ static void turn_back(void)
     restore(draft_n + spare(100));
     due(0, 0, 0);
     due_output(forwarded, draft_n);
-    prepare(draft_n, below(2) * 5);
+    prepare_both_ways(draft_n, below(2) * 5);
     lend_draft();
 }
 
@@ -37,7 +37,7 @@ void prepare_pair(bool sound)
         due_notes(notes, notes_n);
     }
     size_t bytes = draft_n + spare(100), places = 140 + payments * 553 + spare(40);
-    const uint64_t *answer = prepare(bytes, places);
+    const uint64_t *answer = prepare_both_ways(bytes, places);
     have = answer[0] == 0;
     if (!have)
         return;
@@ -55,7 +55,7 @@ static void rooms(size_t room_way, size_t places_way)
         return;
     uint64_t number = bytes[room_way] < draft_n ? 60 : places[places_way] < notes_n ? 61 : 0;
     due(number, 0, number ? 0 : notes_n);
-    prepare(bytes[room_way], places[places_way]);
+    prepare_both_ways(bytes[room_way], places[places_way]);
 }
 
 void random_rooms(void)

@@ -2,8 +2,6 @@
 
 #include <string.h>
 
-#include "../sample.h"
-
 const place text_field[10] = {
     {0, -1}, {23, 162}, {53, 63}, {67, 206}, {210, 349}, {420, 454}, {475, 614}, {623, 647}, {652, 678}, {679, 713}
 };
@@ -70,6 +68,50 @@ size_t changes_of(uint32_t page, const uint8_t *file, size_t n)
     static uint8_t forwarded[MOST_FILE];
     static uint32_t notes[MOST_NOTES];
     return forwarded_of(page, file, n, forwarded, notes);
+}
+
+/* ---- Request A5 ---------------------------------------------------------------------------- */
+
+size_t payments_of(size_t n) { return n < 512 ? 0 : (n - 512) / 768; }
+
+/* Q, the payments that the list does not name, in their order, and a Z with fresh figures; the length. */
+static size_t kept_of(const uint8_t *file, size_t n, const uint32_t *returned, size_t returned_n, uint8_t *kept)
+{
+    size_t count = 0, named = 0;
+    memcpy(kept, file, 256);
+    for (size_t record = 1; record <= payments_of(n); record++)
+        if (named < returned_n && returned[named] / 100 == record)
+            named++;
+        else
+            memcpy(kept + 256 + 768 * count++, file + 256 + 768 * (record - 1), 768);
+    sample_z(kept, count);
+    return file_bytes(count);
+}
+
+void send_all_but(uint32_t page, const uint8_t *file, size_t n, const uint32_t *returned, size_t returned_n, sent *s)
+{
+    s->n = kept_of(file, n, returned, returned_n, s->kept);
+    size_t notes_n = forwarded_of(page, s->kept, s->n, s->forwarded, s->notes);
+    size_t kept = payments_of(s->n);
+    uint64_t euros = euros_of(s->kept, kept), submitted = euros_of(file, payments_of(n));
+    memcpy(s->answer, (uint64_t[7]){0, 0, notes_n, kept, returned_n, euros, submitted - euros}, sizeof s->answer);
+}
+
+bool non_digit_in_t14(const uint8_t *t)
+{
+    for (int i = 458; i <= 474; i++)
+        if (t[i] < '0' || t[i] > '9')
+            return true;
+    return false;
+}
+
+/* Of the T rules only 33, and only with such a record; of the others all but 50 and 70. */
+bool may_refuse_sorting(const uint8_t *file, size_t n, uint64_t number, uint64_t record)
+{
+    if (number == 33)
+        return record >= 1 && record <= payments_of(n) && non_digit_in_t14(file + 256 + 768 * (record - 1));
+    return (number >= 1 && number <= 5) || number == 7 || (number >= 10 && number <= 16) ||
+           (number >= 40 && number <= 43) || number == 60 || number == 61 || number == 63;
 }
 
 bool has_day(unsigned year, unsigned month, unsigned day)

@@ -1,11 +1,14 @@
-/* What the tests themselves take from document 01 and from requests A1 to A3 of document 02: where text stands, what the
-   table makes of it, dates, lists, where a broken rule points to. Both sides of the comparison are held to what follows. */
+/* What the tests themselves take from document 01 and from requests A1 to A3 and A5 of document 02: where text stands, what
+   the table makes of it, dates, lists, where a broken rule points to, what goes on where payments are returned. Both sides
+   of the comparison are held to what follows. */
 #ifndef PAPER_H
 #define PAPER_H
 
 #include <stdbool.h>
 #include <stddef.h>
 #include <stdint.h>
+
+#include "../sample.h"
 
 /* Text fields as numbered for display: 1 stands in Q, 2 to 9 in T. First and last offset in the record. */
 typedef struct { int first, last; } place;
@@ -28,6 +31,25 @@ size_t forwarded_of(uint32_t page, const uint8_t *file, size_t n, uint8_t *forwa
 
 /* How many characters of a sound file the table changes. */
 size_t changes_of(uint32_t page, const uint8_t *file, size_t n);
+
+/* What the default way of prepare owes of a file whose figures are right, in rooms that are large enough, where it returns
+   these payments, each named as record * 100 + rule: its answer, the kept file, and what that one is forwarded as. */
+typedef struct {
+    uint64_t answer[7];                             /* number, record, notes, kept, returned, euros kept, euros returned */
+    size_t n;                                       /* bytes of the kept file */
+    uint8_t kept[MOST_FILE], forwarded[MOST_FILE];
+    uint32_t notes[MOST_NOTES];
+} sent;
+void send_all_but(uint32_t page, const uint8_t *file, size_t n, const uint32_t *returned, size_t returned_n, sent *s);
+
+/* How many payments a file of whole records has. */
+size_t payments_of(size_t n);
+
+/* Whether T14a or T14b of a payment has a non-digit. */
+bool non_digit_in_t14(const uint8_t *t);
+
+/* Whether the default way of prepare may refuse a file, whatever is in it, with this number at this record. */
+bool may_refuse_sorting(const uint8_t *file, size_t n, uint64_t number, uint64_t record);
 
 /* Whether a year 2000 to 2099 has this day. */
 bool has_day(unsigned year, unsigned month, unsigned day);

@@ -1,4 +1,6 @@
 /* What is due of each call, on a draft on which the verdict is known. */
+#include <string.h>
+
 #include "plans.h"
 #include "suites.h"
 
@@ -58,6 +60,27 @@ static void judge_a_taken_number(verdict told)
     lend_taken(NULL, 0);
 }
 
+const uint64_t *prepare_both_ways(size_t room, size_t places)
+{
+    static uint64_t strict[3];
+    size_t n = lent_file_n(), list = below(6);
+    memcpy(strict, prepare_strict(room, places), sizeof strict);
+    bool t_rule = strict[0] >= 20 && strict[0] <= 35;
+    if (strict[0] == 0) {
+        due(0, 0, strict[2], payments_of(n), 0, euros_of(lent_file(0), payments_of(n)), 0);
+        due_output(output_left(), n);
+        due_notes(notes_left(), strict[2]);
+    } else if (!t_rule) {
+        due(strict[0], strict[1], 0, 0, 0, 0, 0);
+    }
+    const uint64_t *sorted = prepare(room, places, list);
+    if (t_rule && sorted[0] == 0) {
+        due_returned((const uint32_t[]){(uint32_t)(100 * strict[1] + strict[0])}, 1);
+        prepare(room, places, list);
+    }
+    return strict;
+}
+
 static void prepare_it(verdict told)
 {
     if (told.rule == 0) {
@@ -66,7 +89,7 @@ static void prepare_it(verdict told)
     }
     due(told.rule, told.record, 0);
     size_t room = one_in(2) ? below(draft_n) : draft_n, places = below(8);
-    prepare(room, places);
+    prepare_both_ways(room, places);
 }
 
 /* A sound file without notes is a pair where the table leaves it as it is. */
