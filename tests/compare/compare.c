@@ -38,6 +38,7 @@ static void fixed_part(void)
 {
     use_annexes();
     each_code_page();
+    each_sorting();
     each_arrival();
     each_length();
     each_amount();
@@ -45,6 +46,7 @@ static void fixed_part(void)
     each_country_list();
     on_each_page();
     long_arrivals();
+    long_sorting();
     sweep();
 }
 
@@ -71,7 +73,7 @@ static void every_call(bool sound)
     random_parts();
     if (draft_n < 512) {
         size_t room = one_in(2) ? draft_n : below(draft_n + 50), places = below(100);
-        prepare(room, places);
+        prepare_both_ways(room, places);
         lend(NOTES_IN, NULL, 0);
         restore(room);
     } else {
@@ -95,6 +97,7 @@ static void random_case(void)
         random_near_miss();
         random_country_list();
         random_reading();
+        random_sorting();
         return;
     }
     if (one_in(3)) {

@@ -422,7 +422,7 @@ static void read_long_and_longer(verdict told)
 /* Sound; with a fault of content, first or last; with one of structure, first, or in the middle; with all that behind Z. */
 void long_arrivals(void)
 {
-    long_draft();
+    long_draft(MOST_PAYMENTS);
     read_long_and_longer(broken_at(0, 0, 0));
     record_of(MOST_PAYMENTS)[455] = 'X';
     read_long_and_longer(broken_at(32, MOST_PAYMENTS, 455));

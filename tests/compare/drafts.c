@@ -269,15 +269,17 @@ bool random_file(size_t count, const payment_kind *kinds, int mode)
     return sound;
 }
 
-void long_draft(void)
+payment_kind kind_in_long_draft(size_t record) { return (payment_kind)(record % 4); }
+
+void long_draft(size_t count)
 {
-    payments = MOST_PAYMENTS;
-    draft_n = MOST_FILE;
+    payments = count;
+    draft_n = file_bytes(count);
     sample_q(draft);
     for (size_t r = 1; r <= payments; r++)
-        sample_t(record_of(r), (payment_kind)(r % 4), "US", r, r % 100);
+        sample_t(record_of(r), kind_in_long_draft(r), "US", r, r % 100);
     memcpy(record_of(1) + 475, "'", 1);
-    memcpy(record_of(MOST_PAYMENTS) + 679, "'&", 2);
-    record_of(MOST_PAYMENTS)[713] = 0xFF;
+    memcpy(record_of(payments) + 679, "'&", 2);
+    record_of(payments)[713] = 0xFF;
     sample_z(draft, payments);
 }

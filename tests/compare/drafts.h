@@ -47,7 +47,9 @@ void spoil_any_byte(void);
    that become spaces. Answers whether it is sound: it is not where no country is listed, or wrong ones are wanted. */
 bool random_file(size_t count, const payment_kind *kinds, int mode);
 
-/* The longest sound draft by the annexes: payments of all kinds, the n-th of n euros, with a few changed characters. */
-void long_draft(void);
+/* A sound draft by the annexes of any length: payments of all kinds by turns, the n-th of n euros, with a few changed
+   characters in the first and the last. */
+void long_draft(size_t count);
+payment_kind kind_in_long_draft(size_t record);
 
 #endif

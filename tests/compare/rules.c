@@ -198,6 +198,29 @@ void with_each_rule_broken(void (*then)(verdict told))
             }
 }
 
+/* Not by a non-digit in T14: that is another matter than the rest of rule 33. */
+static size_t rows_to_return(unsigned rule, char who, const row *found[ROWS])
+{
+    size_t n = 0;
+    for (const row *w = rows; w < rows + ROWS; w++)
+        if (w->rule == (int)rule && strchr(w->who, who) && (rule != 33 || w->how != '9'))
+            found[n++] = w;
+    return n;
+}
+
+void fit_payment(size_t record, payment_kind kind) { fit_record(kind_letters[kind], record_of(record)); }
+
+bool break_rule(unsigned rule, size_t record, payment_kind kind)
+{
+    const row *found[ROWS];
+    size_t n = rows_to_return(rule, kind_letters[kind], found);
+    if (n == 0)
+        return false;
+    const row *w = found[below(n)];
+    spoil(w, record_of(record), below(ways(w)));
+    return true;
+}
+
 void random_rule_alone(void)
 {
     const row *w = &rows[below(ROWS)];

@@ -15,6 +15,8 @@ void each_set_of_fields(void);
 void each_pair_of_rules(void);
 void with_each_rule_broken(void (*then)(verdict told));             /* the draft is not yet lent */
 void break_rules_at_random(void);                   /* in the draft; what is then due is not known */
+void fit_payment(size_t record, payment_kind kind); /* of the draft, so that the next one breaks one rule and no other */
+bool break_rule(unsigned rule, size_t record, payment_kind kind);   /* of 20 to 35, if the kind can; 33 by digits alone */
 void random_rule_alone(void);
 void random_pair_of_rules(void);
 
@@ -49,6 +51,10 @@ void judge_by_turns(verdict told);                  /* every fourth time in all 
 void another_call(size_t turn, verdict told);
 void show_part(uint64_t record, uint64_t field, bool walked);       /* walked: no rule of 1 to 5 is broken */
 
+/* The lent file in both ways of prepare. What is due of the strict one is said before; its answer. Where that one tells no
+   T rule, the default way leaves the same and returns nothing; else what it returns begins with the payment that is told. */
+const uint64_t *prepare_both_ways(size_t room, size_t places);
+
 /* cases.c: the cases that document 01 names, lists and numbers, every length, long files. */
 void named_cases(void);
 void each_length(void);
@@ -60,6 +66,11 @@ void spoil_structure(void);                         /* of the draft; what is the
 /* countries.c: request A4, the search of the country lists. */
 void each_country_list(void);
 void random_country_list(void);                     /* it leaves the annexes in use */
+
+/* sorting.c: request A5, the good payments sent on, on both pages; it leaves page 0 and the annexes in use. */
+void each_sorting(void);
+void long_sorting(void);
+void random_sorting(void);                          /* with the annexes, on the page in use */
 
 /* sweep.c: what people send by mistake; every byte at every place; every date, wrong totals; and every pair of
    characters in the short fields, numbers of payments. Of these the first two read text. */
