@@ -1,5 +1,6 @@
-/* Times the desk's judge, prepare and restore beside an independent implementation, and its reader beside its own calls over
-   the whole file, in one run.
+/* Times the desk's judge, prepare and restore beside an independent implementation; its reader beside its own calls over
+   the whole file; and its default way of prepare beside the strict one; in one run. Where nothing else is said, prepare is
+   the strict way, as in all figures so far.
 
    The environment variable DESK_EMULATED names the processor under an emulator. Each figure is the best of many timing
    loops; no figure fails anything. */
@@ -17,15 +18,16 @@
 
 enum { DESK, PLAIN, SIDES };
 enum { IN_CUTS = DESK, WHOLE = PLAIN };                     /* the sides of READ, both the desk's */
-enum { JUDGE, PREPARE, RESTORE, CALLS, SHOW = CALLS, READ };
+enum { BY_DEFAULT = DESK, STRICTLY = PLAIN };               /* the sides of SORT, both the desk's */
+enum { JUDGE, PREPARE, RESTORE, CALLS, SHOW = CALLS, READ, SORT };
 static const char *const call_name[CALLS] = {"judge", "prepare", "restore"};
 
 static const size_t sizes[] = {1, 84, 6000, 9999};
 enum { SIZES = sizeof sizes / sizeof sizes[0], ROUNDS = 25, MOST_NOTES = 2 * MOST_PAYMENTS + 2 };
 static const double loop_seconds = 0.004;
 
-static uint8_t file[MOST_FILE], forwarded[MOST_FILE], out[MOST_FILE];
-static uint32_t notes[MOST_NOTES], notes_out[MOST_NOTES];
+static uint8_t file[MOST_FILE], submitted[MOST_FILE], forwarded[MOST_FILE], out[MOST_FILE];
+static uint32_t notes[MOST_NOTES], notes_out[MOST_NOTES], returned[MOST_PAYMENTS];
 static size_t n, notes_n, cut_bytes;
 static const uint64_t no_taken[1];
 static volatile uint64_t sink;
@@ -45,7 +47,13 @@ static uint64_t read_in_cuts(void)
 /* The same work over the whole file: without a note place, prepare judges and counts the changes, and is refused. */
 static uint64_t judge_and_count(void)
 {
-    return desk_prepare(PAGE, file, n, LISTS, out, n, notes_out, 0).number;
+    return desk_prepare_strict(PAGE, file, n, LISTS, out, n, notes_out, 0).number;
+}
+
+/* How many payments come back of the file with bad ones. */
+static uint64_t sort_submitted(void)
+{
+    return desk_prepare(PAGE, submitted, n, LISTS, out, n, notes_out, MOST_NOTES, returned, MOST_PAYMENTS).returned;
 }
 
 static uint64_t call_once(int call, int side)
@@ -55,13 +63,15 @@ static uint64_t call_once(int call, int side)
         return side == DESK ? desk_judge_full(PAGE, file, n, LISTS, no_taken, 0).number
                             : plain_judge_full(PAGE, file, n, LISTS, no_taken, 0).number;
     case PREPARE:
-        return side == DESK ? desk_prepare(PAGE, file, n, LISTS, out, n, notes_out, MOST_NOTES).number
-                            : plain_prepare(PAGE, file, n, LISTS, out, n, notes_out, MOST_NOTES).number;
+        return side == DESK ? desk_prepare_strict(PAGE, file, n, LISTS, out, n, notes_out, MOST_NOTES).number
+                            : plain_prepare_strict(PAGE, file, n, LISTS, out, n, notes_out, MOST_NOTES).number;
     case RESTORE:
         return side == DESK ? desk_restore(PAGE, forwarded, n, notes, notes_n, LISTS, out, n).number
                             : plain_restore(PAGE, forwarded, n, notes, notes_n, LISTS, out, n).number;
     case READ:
         return side == IN_CUTS ? read_in_cuts() : judge_and_count();
+    case SORT:
+        return side == BY_DEFAULT ? sort_submitted() : call_once(PREPARE, DESK);
     default:                                                /* the walk over the structure, and no rule */
         return side == DESK ? desk_show(file, n, 1, 2).start : plain_show(file, n, 1, 2).start;
     }
@@ -88,7 +98,7 @@ static void make_file(size_t payments)
     }
     sample_z(file, payments);
     n = file_bytes(payments);
-    plain_prepared p = plain_prepare(PAGE, file, n, LISTS, forwarded, n, notes, MOST_NOTES);
+    plain_strict p = plain_prepare_strict(PAGE, file, n, LISTS, forwarded, n, notes, MOST_NOTES);
     notes_n = p.notes;
     for (int call = 0; call < CALLS; call++)
         for (int side = 0; side < SIDES; side++)
@@ -217,10 +227,33 @@ static void print_reader(void)
     }
 }
 
+/* What it costs to sort: all payments good, and one in ten returned, for its currency. */
+static void print_sorting(void)
+{
+    printf("\nprepare by the default way, 9,999 payments; ratio is default / strict way of the file with good ones alone\n");
+    make_file(MOST_PAYMENTS);
+    memcpy(submitted, file, n);
+    for (uint64_t bad = 0; bad <= 999; bad += 999) {
+        double best[SIDES];
+        for (uint64_t r = 10; r <= 10 * bad; r += 10)
+            put(submitted + 256 + (r - 1) * 768 + 455, "USD");      /* T13 */
+        if (sort_submitted() != bad) {
+            fprintf(stderr, "the default way answers otherwise than is due\n");
+            exit(2);
+        }
+        measure(SORT, best);
+        printf("%-34s", bad ? "one payment in ten returned" : "nothing returned");
+        print_time(best[BY_DEFAULT]);
+        print_time(best[STRICTLY]);
+        printf(" %7.2f\n", best[BY_DEFAULT] / best[STRICTLY]);
+    }
+}
+
 int main(void)
 {
     print_machine(getenv("DESK_EMULATED"));
-    printf("best of %d loops of at least %.0f ms; ratio is desk / plain\n\n", ROUNDS, loop_seconds * 1e3);
+    printf("best of %d loops of at least %.0f ms; ratio is desk / plain; prepare is the strict way\n\n", ROUNDS,
+           loop_seconds * 1e3);
     printf("%8s %-8s %11s %11s %7s %11s %11s\n", "payments", "call", "desk", "plain", "ratio",
            "desk MB/s", "plain MB/s");
 
@@ -246,5 +279,6 @@ int main(void)
         }
     print_parts();
     print_reader();
+    print_sorting();
     return 0;
 }

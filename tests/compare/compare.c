@@ -2,7 +2,7 @@
    the papers ask for.
 
    compare [--seed N] [--calls N]
-       The fixed part, some 3.9 million calls; then random files, until N calls more are made.
+       The fixed part, some 4.1 million calls; then random files, until N calls more are made.
    compare --seconds N [--seed N]
        Random files alone, for that many seconds.
    compare --replay FILE

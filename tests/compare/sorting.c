@@ -203,11 +203,12 @@ static void submit(size_t count)
     submit_kinds(count);
 }
 
-/* Breaks the rule in that payment, if its kind can; of several, the highest first, so that what breaks the lowest stays.
-   Rule 21 is not broken by record 1 itself. Z is made to fit. */
+/* Breaks the rule in that payment, if its kind can; of several, the highest first, so that what breaks the lowest stays. Who
+   breaks rule 21 is seen by what stands there: two may differ from record 1, or from the others, in the same way. Z is made
+   to fit. */
 static void break_payment(size_t record, unsigned rule)
 {
-    if (break_rule(rule, record, kinds[record]) && (rule != 21 || record != 1))
+    if (break_rule(rule, record, kinds[record]) && rule != 21)
         lowest[record] = rule;
     sample_z(draft, payments);
 }
@@ -219,7 +220,7 @@ static void put_non_digit(size_t record, int at)
         lowest[record] = 33;
 }
 
-/* The first rule that a payment breaks; 21 by what stands there. */
+/* The first rule that a payment breaks. */
 static unsigned first_rule(size_t record)
 {
     const uint8_t *t = record_of(record), *t_1 = record_of(1);
@@ -359,7 +360,7 @@ static void sort_submitted(void)
 
 /* ---- Each rule, in one, two or all of three payments ------------------------------------------ */
 
-/* One record of the draft is broken, in whichever field. Record 1 that differs from the others breaks no rule itself. */
+/* One record of the draft is broken, in whichever field. */
 static void sort_broken(verdict judged)
 {
     begin_faults();
