@@ -312,7 +312,7 @@ static void check_list(const uint32_t *list, uint64_t count)
     }
 }
 
-/* Which payments are returned is for the papers to say; all else that the default way answers and leaves follows from it. */
+/* Which payments come back is for the suites to ask; all else that the default way answers and leaves follows from it. */
 static void check_sorted(int side)
 {
     static sent wanted;
@@ -322,12 +322,10 @@ static void check_sorted(int side)
     check_kept(side, "list places", (const uint8_t *)list, 4 * now.list, a[0] ? 0 : 4 * a[4]);
     if (a[0] && (a[3] || a[4] || a[5] || a[6]))
         differ("payments or euros counted though refused");
-    if (a[0] && !may_refuse_sorting(lent(FILE_IN), n, a[0], a[1]))
-        differ("the default way refuses no file with this number at this record");
+    if (!may_tell_sorted(lent(FILE_IN), n, a[0], a[1]))
+        differ("the default way does not tell this number and record of such a file");
     if (a[0])
         return;
-    if (n < file_bytes(1) || n != file_bytes(payments_of(n)))
-        differ("no file has this length");
     check_list(list, a[4]);
     send_all_but(now.page, lent(FILE_IN), n, list, a[4], &wanted);
     if (a[3] == 0 || memcmp(a, wanted.answer, sizeof wanted.answer) != 0)
@@ -341,14 +339,14 @@ static void check_answer(int side)
 {
     const uint64_t *a = answer[side];
     size_t sent_n = now.call == PREPARE ? file_bytes(a[3]) : now.size[FILE_IN];
+    if (names_page() && (a[0] == 7) != (now.page >= PAGES))
+        differ("7 is told exactly where there is no such page");
     if (prepares() || now.call == RESTORE)
         check_kept(side, "output bytes", out_of(side), now.room, a[0] ? 0 : sent_n);
     if (prepares())
         check_notes(side);
     if (now.call == PREPARE)
         check_sorted(side);
-    if (names_page() && (a[0] == 7) != (now.page >= PAGES))
-        differ("7 is told exactly where there is no such page");
     if (names_page() && (a[0] == 0 || a[0] == 7 || a[0] >= 43) && a[1] != 0)
         differ("record 0 expected");
     if (judges_fully() && a[0] && (a[3] || a[4] || a[5] || a[6]))

@@ -105,13 +105,24 @@ bool non_digit_in_t14(const uint8_t *t)
     return false;
 }
 
-/* Of the T rules only 33, and only with such a record; of the others all but 50 and 70. */
-bool may_refuse_sorting(const uint8_t *file, size_t n, uint64_t number, uint64_t record)
+/* Of the T rules it is only 33, and that one at the first payment with a non-digit in T14; what comes behind it in the order
+   is told where there is no such payment. */
+bool may_tell_sorted(const uint8_t *file, size_t n, uint64_t number, uint64_t record)
 {
+    size_t count = payments_of(n), first = 1;
+    if ((number >= 1 && number <= 5) || number == 7)
+        return true;
+    if (n < file_bytes(1) || n > MOST_FILE || n != file_bytes(count))
+        return false;
+    if (number >= 10 && number <= 16)
+        return record == 0;
+    while (first <= count && !non_digit_in_t14(file + 256 + 768 * (first - 1)))
+        first++;
     if (number == 33)
-        return record >= 1 && record <= payments_of(n) && non_digit_in_t14(file + 256 + 768 * (record - 1));
-    return (number >= 1 && number <= 5) || number == 7 || (number >= 10 && number <= 16) ||
-           (number >= 40 && number <= 43) || number == 60 || number == 61 || number == 63;
+        return first <= count && record == first;
+    bool at_z = number >= 40 && number <= 42;
+    bool at_0 = number == 0 || number == 43 || number == 60 || number == 61 || number == 63;
+    return first > count && ((at_z && record == count + 1) || (at_0 && record == 0));
 }
 
 bool has_day(unsigned year, unsigned month, unsigned day)

@@ -48,8 +48,9 @@ size_t payments_of(size_t n);
 /* Whether T14a or T14b of a payment has a non-digit. */
 bool non_digit_in_t14(const uint8_t *t);
 
-/* Whether the default way of prepare may refuse a file, whatever is in it, with this number at this record. */
-bool may_refuse_sorting(const uint8_t *file, size_t n, uint64_t number, uint64_t record);
+/* Whether the default way of prepare may tell this number and this record of the file: what the order of its refusals says,
+   which rules its payments break being left aside. */
+bool may_tell_sorted(const uint8_t *file, size_t n, uint64_t number, uint64_t record);
 
 /* Whether a year 2000 to 2099 has this day. */
 bool has_day(unsigned year, unsigned month, unsigned day);

@@ -153,7 +153,7 @@ static void payees_of_each_page(void)
     prepare(file_bytes(2), 1, 1);
 }
 
-/* Three payments to the US, by lists that have it, and by lists that do not. */
+/* By the first bytes of two lists; a lone last one is ignored. */
 static void by_lists(size_t transfers_n, size_t cheques_n, const uint64_t answer[7], const uint32_t *returned)
 {
     use_lists("USGB", transfers_n, "US", cheques_n);
@@ -165,7 +165,7 @@ static void by_lists(size_t transfers_n, size_t cheques_n, const uint64_t answer
 static void each_lent_list(void)
 {
     three_payments();
-    record_of(2)[207] = 'G', record_of(2)[208] = 'B';
+    put(record_of(2) + 207, "GB ");
     lend_draft();
     by_lists(4, 2, (const uint64_t[7]){0, 0, 1, 3, 0, 1199, 0}, NULL);
     by_lists(2, 2, (const uint64_t[7]){0, 0, 0, 2, 1, 1120, 79}, (const uint32_t[]){228});
@@ -204,8 +204,8 @@ static void submit(size_t count)
 }
 
 /* Breaks the rule in that payment, if its kind can; of several, the highest first, so that what breaks the lowest stays. Who
-   breaks rule 21 is seen by what stands there: two may differ from record 1, or from the others, in the same way. Z is made
-   to fit. */
+   breaks rule 21 is seen by what stands there: record 1 does not, and another may be changed in the same way as record 1. Z
+   is made to fit. */
 static void break_payment(size_t record, unsigned rule)
 {
     if (break_rule(rule, record, kinds[record]) && rule != 21)
