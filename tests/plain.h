@@ -67,8 +67,8 @@ plain_prepared plain_prepare(uint32_t page, const uint8_t *file, size_t n,
                              uint8_t *out, size_t out_n, uint32_t *notes, size_t notes_n,
                              uint32_t *returned, size_t returned_n);
 
-/* Restore, of what the strict way leaves: 7, then 60, then 70; the record is always 0. If 0, out begins with the
-   original; the rest is left as it was. All lent notes count. */
+/* Restore, which stays strict: 7, then 60, then 70; the record is always 0. If 0, out begins with the original, of the
+   default way the kept file; the rest is left as it was. All lent notes count. */
 plain_restored plain_restore(uint32_t page, const uint8_t *forwarded, size_t n, const uint32_t *notes, size_t notes_n,
                            const uint8_t *transfer, size_t nt, const uint8_t *cheque, size_t nc,
                            uint8_t *out, size_t out_n);

@@ -267,16 +267,10 @@ static void edges_of_the_rules(void)
     each_part();
 }
 
-/* Sums of 999,999,999,999,999 and one more, which Z3 cannot hold. */
 static void edges_of_the_sum(void)
 {
     for (unsigned more = 0; more < 2; more++) {
-        payments = 11;
-        draft_n = file_bytes(11);
-        sample_q(draft);
-        for (size_t r = 1; r <= 11; r++)
-            sample_t(record_of(r), CHEQUE, "US", r < 11 ? 99999999999999u : 9u + more, 99);
-        sample_z(draft, 11);
+        draft_of_the_largest_sum(more);
         lend_draft();
         if (more)
             due(42, 12, 5, 0, 0, 0);

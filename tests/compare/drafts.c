@@ -269,6 +269,16 @@ bool random_file(size_t count, const payment_kind *kinds, int mode)
     return sound;
 }
 
+void draft_of_the_largest_sum(unsigned more)
+{
+    payments = 11;
+    draft_n = file_bytes(11);
+    sample_q(draft);
+    for (size_t r = 1; r <= 11; r++)
+        sample_t(record_of(r), CHEQUE, "US", r < 11 ? 99999999999999u : 9u + more, 99);
+    sample_z(draft, 11);
+}
+
 payment_kind kind_in_long_draft(size_t record) { return (payment_kind)(record % 4); }
 
 void long_draft(size_t count)

@@ -47,6 +47,10 @@ void spoil_any_byte(void);
    that become spaces. Answers whether it is sound: it is not where no country is listed, or wrong ones are wanted. */
 bool random_file(size_t count, const payment_kind *kinds, int mode);
 
+/* Cheques whose T14a sum up to 999,999,999,999,999, or to so many more, which Z3 cannot hold. There are eleven; the last is
+   of 9 euros, and those more. */
+void draft_of_the_largest_sum(unsigned more);
+
 /* A sound draft by the annexes of any length: payments of all kinds by turns, the n-th of n euros, with a few changed
    characters in the first and the last. */
 void long_draft(size_t count);

@@ -70,61 +70,6 @@ size_t changes_of(uint32_t page, const uint8_t *file, size_t n)
     return forwarded_of(page, file, n, forwarded, notes);
 }
 
-/* ---- Request A5 ---------------------------------------------------------------------------- */
-
-size_t payments_of(size_t n) { return n < 512 ? 0 : (n - 512) / 768; }
-
-/* Q, the payments that the list does not name, in their order, and a Z with fresh figures; the length. */
-static size_t kept_of(const uint8_t *file, size_t n, const uint32_t *returned, size_t returned_n, uint8_t *kept)
-{
-    size_t count = 0, named = 0;
-    memcpy(kept, file, 256);
-    for (size_t record = 1; record <= payments_of(n); record++)
-        if (named < returned_n && returned[named] / 100 == record)
-            named++;
-        else
-            memcpy(kept + 256 + 768 * count++, file + 256 + 768 * (record - 1), 768);
-    sample_z(kept, count);
-    return file_bytes(count);
-}
-
-void send_all_but(uint32_t page, const uint8_t *file, size_t n, const uint32_t *returned, size_t returned_n, sent *s)
-{
-    s->n = kept_of(file, n, returned, returned_n, s->kept);
-    size_t notes_n = forwarded_of(page, s->kept, s->n, s->forwarded, s->notes);
-    size_t kept = payments_of(s->n);
-    uint64_t euros = euros_of(s->kept, kept), submitted = euros_of(file, payments_of(n));
-    memcpy(s->answer, (uint64_t[7]){0, 0, notes_n, kept, returned_n, euros, submitted - euros}, sizeof s->answer);
-}
-
-bool non_digit_in_t14(const uint8_t *t)
-{
-    for (int i = 458; i <= 474; i++)
-        if (t[i] < '0' || t[i] > '9')
-            return true;
-    return false;
-}
-
-/* Of the T rules it is only 33, and that one at the first payment with a non-digit in T14; what comes behind it in the order
-   is told where there is no such payment. */
-bool may_tell_sorted(const uint8_t *file, size_t n, uint64_t number, uint64_t record)
-{
-    size_t count = payments_of(n), first = 1;
-    if ((number >= 1 && number <= 5) || number == 7)
-        return true;
-    if (n < file_bytes(1) || n > MOST_FILE || n != file_bytes(count))
-        return false;
-    if (number >= 10 && number <= 16)
-        return record == 0;
-    while (first <= count && !non_digit_in_t14(file + 256 + 768 * (first - 1)))
-        first++;
-    if (number == 33)
-        return first <= count && record == first;
-    bool at_z = number >= 40 && number <= 42;
-    bool at_0 = number == 0 || number == 43 || number == 60 || number == 61 || number == 63;
-    return first > count && ((at_z && record == count + 1) || (at_0 && record == 0));
-}
-
 bool has_day(unsigned year, unsigned month, unsigned day)
 {
     static const unsigned last[13] = {0, 31, 28, 31, 30, 31, 30, 31, 31, 30, 31, 30, 31};
@@ -180,4 +125,59 @@ verdict first_of(verdict one, verdict other)
     if (one.rule != other.rule)
         return one.rule < other.rule ? one : other;
     return one.at < other.at ? one : other;
+}
+
+/* ---- Request A5 ---------------------------------------------------------------------------- */
+
+size_t payments_of(size_t n) { return n < 512 ? 0 : (n - 512) / 768; }
+
+/* Q, the payments that the list does not name, in their order, and a Z with fresh figures; the length. */
+static size_t kept_of(const uint8_t *file, size_t n, const uint32_t *returned, size_t returned_n, uint8_t *kept)
+{
+    size_t count = 0, named = 0;
+    memcpy(kept, file, 256);
+    for (size_t record = 1; record <= payments_of(n); record++)
+        if (named < returned_n && returned[named] / 100 == record)
+            named++;
+        else
+            memcpy(kept + 256 + 768 * count++, file + 256 + 768 * (record - 1), 768);
+    sample_z(kept, count);
+    return file_bytes(count);
+}
+
+void send_all_but(uint32_t page, const uint8_t *file, size_t n, const uint32_t *returned, size_t returned_n, sent *s)
+{
+    s->n = kept_of(file, n, returned, returned_n, s->kept);
+    size_t notes_n = forwarded_of(page, s->kept, s->n, s->forwarded, s->notes);
+    size_t kept = payments_of(s->n);
+    uint64_t euros = euros_of(s->kept, kept), submitted = euros_of(file, payments_of(n));
+    memcpy(s->answer, (uint64_t[7]){0, 0, notes_n, kept, returned_n, euros, submitted - euros}, sizeof s->answer);
+}
+
+bool non_digit_in_t14(const uint8_t *t)
+{
+    for (int i = 458; i <= 474; i++)
+        if (t[i] < '0' || t[i] > '9')
+            return true;
+    return false;
+}
+
+/* Of the T rules it is only 33, and that one at the first payment with a non-digit in T14; what comes behind it in the order
+   is told where there is no such payment. */
+bool may_tell_sorted(const uint8_t *file, size_t n, uint64_t number, uint64_t record)
+{
+    size_t count = payments_of(n), first = 1;
+    if ((number >= 1 && number <= 5) || number == 7)
+        return true;
+    if (n < file_bytes(1) || n > MOST_FILE || n != file_bytes(count))
+        return false;
+    if (number >= 10 && number <= 16)
+        return record == 0;
+    while (first <= count && !non_digit_in_t14(file + 256 + 768 * (first - 1)))
+        first++;
+    if (number == 33)
+        return first <= count && record == first;
+    bool at_z = number >= 40 && number <= 42;
+    bool at_0 = number == 0 || number == 43 || number == 60 || number == 61 || number == 63;
+    return first > count && ((at_z && record == count + 1) || (at_0 && record == 0));
 }

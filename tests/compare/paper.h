@@ -32,6 +32,27 @@ size_t forwarded_of(uint32_t page, const uint8_t *file, size_t n, uint8_t *forwa
 /* How many characters of a sound file the table changes. */
 size_t changes_of(uint32_t page, const uint8_t *file, size_t n);
 
+/* Whether a year 2000 to 2099 has this day. */
+bool has_day(unsigned year, unsigned month, unsigned day);
+
+bool is_listed(const uint8_t *list, size_t n, const uint8_t country[2]);
+
+/* The judge's first three numbers: the first broken rule, its record, and where in the record the lowest-placed field
+   begins that breaks the rule. All are 0 for a sound file. */
+typedef struct { uint64_t rule, record, at; } verdict;
+
+/* The verdict where a rule is broken by what stands at this place of the record. If the rule has several fields, the one
+   with the place in it is told. Rule 0: sound, whatever the record and the place. */
+verdict broken_at(uint64_t rule, uint64_t record, int place);
+
+/* Whether a rule can be told with this place: a field of the rule begins there, or it has none and the place is 0. */
+bool may_point_to(uint64_t rule, uint64_t at);
+
+/* What is told where both hold of a file: the first by record, then by rule, then by place. */
+verdict first_of(verdict one, verdict other);
+
+/* ---- Request A5 ---------------------------------------------------------------------------- */
+
 /* What the default way of prepare owes of a file whose figures are right, in rooms that are large enough, where it returns
    these payments, each named as record * 100 + rule: its answer, the kept file, and what that one is forwarded as. */
 typedef struct {
@@ -51,24 +72,5 @@ bool non_digit_in_t14(const uint8_t *t);
 /* Whether the default way of prepare may tell this number and this record of the file: what the order of its refusals says,
    which rules its payments break being left aside. */
 bool may_tell_sorted(const uint8_t *file, size_t n, uint64_t number, uint64_t record);
-
-/* Whether a year 2000 to 2099 has this day. */
-bool has_day(unsigned year, unsigned month, unsigned day);
-
-bool is_listed(const uint8_t *list, size_t n, const uint8_t country[2]);
-
-/* The judge's first three numbers: the first broken rule, its record, and where in the record the lowest-placed field
-   begins that breaks the rule. All are 0 for a sound file. */
-typedef struct { uint64_t rule, record, at; } verdict;
-
-/* The verdict where a rule is broken by what stands at this place of the record. If the rule has several fields, the one
-   with the place in it is told. Rule 0: sound, whatever the record and the place. */
-verdict broken_at(uint64_t rule, uint64_t record, int place);
-
-/* Whether a rule can be told with this place: a field of the rule begins there, or it has none and the place is 0. */
-bool may_point_to(uint64_t rule, uint64_t at);
-
-/* What is told where both hold of a file: the first by record, then by rule, then by place. */
-verdict first_of(verdict one, verdict other);
 
 #endif

@@ -67,7 +67,10 @@ void spoil_structure(void);                         /* of the draft; what is the
 void each_country_list(void);
 void random_country_list(void);                     /* it leaves the annexes in use */
 
-/* sorting.c: request A5, the good payments sent on, on both pages; it leaves page 0 and the annexes in use. */
+/* examples.c: request A5, worked out by hand; it leaves the annexes in use. */
+void each_sorted_example(void);
+
+/* sorting.c: request A5, the good payments sent on, on both pages; it leaves page 0 in use. */
 void each_sorting(void);
 void long_sorting(void);
 void random_sorting(void);                          /* with the annexes, on the page in use */
