@@ -461,7 +461,8 @@ void random_arrival(void)
     lend_draft();
     lend(OTHER_TRANSFER, annex_ii, below(ANNEX_II_BYTES + 1));
     lend(OTHER_CHEQUE_LIST, annex_i, below(ANNEX_I_BYTES + 1));
-    lend_taken_and_other(one_in(2), one_in(2));
+    bool in_taken = one_in(2), in_other = one_in(2);
+    lend_taken_and_other(in_taken, in_other);
     begin_plan();
     random_cuts_to(file_n, OTHER_LISTS);
     end_with(one_in(2));

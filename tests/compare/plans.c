@@ -55,8 +55,10 @@ static size_t random_end(size_t place)
 
 void random_cuts_to(size_t place, unsigned allowed)
 {
-    for (size_t cuts = below(6); cuts > 0; cuts--)
-        cut_to(random_end(place), (unsigned)below(4) & allowed);
+    for (size_t cuts = below(6); cuts > 0; cuts--) {
+        size_t end = random_end(place);
+        cut_to(end, (unsigned)below(4) & allowed);
+    }
     if (planned < place || one_in(4))
         cut_to(place, (unsigned)below(4) & allowed);
 }
