@@ -50,22 +50,6 @@ static void each_rule_in_each_set(payment_kind kind)
 
 static unsigned random_rule(void) { return 20 + (unsigned)below(16); }
 
-static void each_non_digit(void)
-{
-    for (int at = 458; at <= 474; at++)
-        for (size_t record = 1; record <= 3; record++)
-            for (unsigned set = 0; set < SETS; set++) {
-                submit(3);
-                break_set(set, random_rule());
-                put_non_digit(record, at);
-                if (one_in(4))
-                    put_non_digit(1 + below(3), 474);
-                if (one_in(4))
-                    behind = (verdict){41, 4, 0}, record_of(4)[34] = '4';
-                sort_submitted();
-            }
-}
-
 /* Ways to make Z wrong. Its figures may be those of the kept payments already. */
 static void spoil_z(size_t way)
 {
@@ -87,6 +71,24 @@ static void spoil_z(size_t way)
     behind = (verdict){rule, payments + 1, 0};
 }
 enum { WRONG_ZS = 8 };
+
+/* In the same payment, in an earlier or in a later one than those that are returned; now and then in two, or with a wrong
+   Z. */
+static void each_non_digit(void)
+{
+    for (int at = 458; at <= 474; at++)
+        for (size_t record = 1; record <= 3; record++)
+            for (unsigned set = 0; set < SETS; set++) {
+                submit(3);
+                break_set(set, random_rule());
+                put_non_digit(record, at);
+                if (one_in(4))
+                    put_non_digit(1 + below(3), 474);
+                if (one_in(4))
+                    spoil_z(below(WRONG_ZS));
+                sort_submitted();
+            }
+}
 
 static void each_wrong_z(void)
 {
@@ -186,7 +188,7 @@ static void break_sevenths(bool sevenths)
             break_payment(r, 20 + (unsigned)(r + 4) % 16);
 }
 
-/* 1428 of 9,999 payments are each a seventh, and 7 + 14 + .. + 9996 = 7,142,142. */
+/* Of 9,999 payments each seventh comes back: 1428 of them, and 7 + 14 + .. + 9996 = 7,142,142. */
 static void one_in_seven_returned(void)
 {
     submit_many(MOST_PAYMENTS);
