@@ -17,7 +17,10 @@ use Rattle.judge.specs.First.{breaks, firstRule, faulty, toldAt, none, firstBro
 use Rattle.judge.specs.Content.{faultOf, ruleFrom, ruleEnd, contentOf, rule-real}
 use Rattle.judge.specs.Meaning.{rules-hold, none-broken, broken}
 use Rattle.judge.specs.Sums.{euroSum}
+use Rattle.judge.specs.Run.{slotFault, runFault, firstIn, by-itself}
 use Rattle.judge.specs.declared.Breach.{Breach}
+use Rattle.payments.specs.Faults.{tFault}
+use Rattle.sorting.specs.Kept.{firstOf}
 use Rattle.sorting.specs.Sorted.{ruleAt}
 
 -- a search that finds nothing
@@ -84,3 +87,12 @@ module _ (page : ℕ) (file transfer cheque : List ℕ) (n : ℕ) where
           let at = eqb-true k 0 e in
           absurd (h (ap (λ (j : ℕ). F j r) at ∙ rules-hold F (ruleFrom n) (ruleEnd n) (rule-real n) 0 z r (subst (λ (j : ℕ). ruleFrom n j ≤ r) at a) (subst (λ (j : ℕ). r < ruleEnd n j) at b)))
       go k r false e a b h = omega (arith, low k (eqb-false k 0 e))
+
+-- a T record by itself, judged as record 1 of one
+pub alone-told : (page : ℕ) (transfer cheque key t : List ℕ) {b : Breach} → length t ≡ 768
+    → b ≡ firstIn (runFault page transfer cheque key 1 0 t 256) (ruleFrom 1) (ruleEnd 1) 1 2 → b .number ≡ firstOf page transfer cheque key t
+unfolding firstOf slotFault
+alone-told page transfer cheque key t l e =
+    ap (λ (b : Breach). b .number) e
+    ∙ one-told (runFault page transfer cheque key 1 0 t 256) (ruleFrom 1) (ruleEnd 1) 1
+    ∙ ap (λ (s : List ℕ). first (λ (rule : ℕ). not (eqb (tFault page transfer cheque key s rule) 0)) (λ (rule : ℕ). rule) 0 20 36) (by-itself t 1 (omega arith))

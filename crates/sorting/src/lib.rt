@@ -50,19 +50,14 @@ pub fn refusal(number: usize, rec: usize) -> Sorted
     }
 }
 
-// The first of the rules 20 to 35 that a T record breaks, or 0. The key is record 1's.
+// The first of the rules 20 to 35 that a T record breaks, or 0. The key is record 1's. The judge's own loop asks them, so that
+// they are compiled into one place; as of record 1 of one, for no T rule asks for a record's number.
 pub fn first_rule(page: u32, transfer: &[u8], cheque: &[u8], key: &[u8], t: &[u8]) -> usize
     requires { ⌜ (length (now t) ≡ 768) × (length (now key) ≡ 21) ⌝ }
     ensures { λ r. ⌜ r ≡ firstOf page (now (transfer .entry)) (now (cheque .entry)) (now (key .entry)) (now (t .entry)) ⌝ }
 {
-    let mut rule = 20;
-    while rule < 36 {
-        if payments::fault(page, transfer, cheque, key, t, rule) != 0 {
-            return rule;
-        }
-        rule += 1;
-    }
-    0
+    let found = judge::run(page, transfer, cheque, key, 1, 0, t, Q::LENGTH, 1, 2);
+    found.number
 }
 
 // T14a and T14b are all digits.
