@@ -1,0 +1,97 @@
+/* Prepares a file by the strict way and by the default way. Built by tests/ways.
+       ways PAYMENTS WHICH          nanoseconds a payment, how many come back, and what was measured
+       ways PAYMENTS WHICH TIMES    so many times: for counting */
+#define _GNU_SOURCE
+#include <stdbool.h>
+#include <stdio.h>
+#include <stdlib.h>
+#include <string.h>
+#include <time.h>
+
+#include "desk.h"
+#include "sample.h"
+
+enum { STRICT, SOUND, TENTH, HALF, ALL_BUT_ONE, ROUNDS = 7, WORK = 200000, LONGEST = 256 + 768 * 9999 + 256 };
+
+static const char *const what[] = {"strict way, sound", "default way, sound", "default way, a tenth returned",
+                                   "default way, half returned", "default way, all but one"};
+static uint8_t file[LONGEST], out[LONGEST];
+static uint32_t notes[1], returned[9999];
+static size_t payments, bytes;
+static int which;
+
+static bool comes_back(size_t i)
+{
+    switch (which) {
+    case TENTH: return i % 10 == 9;
+    case HALF: return i % 2 == 1;
+    case ALL_BUT_ONE: return i > 0;
+    default: return false;
+    }
+}
+
+/* Countries stand in turn, and nothing changes: what is measured is the way through the rules. */
+static size_t begin(void)
+{
+    size_t back = 0;
+    bytes = 256 + 768 * payments + 256;
+    sample_q(file);
+    for (size_t i = 0; i < payments; i++) {
+        uint8_t *t = file + 256 + 768 * i;
+        sample_t(t, BIC_ALONE, annex_ii + i * 61 % (ANNEX_II_BYTES / 2) * 2, 1, 0);
+        if (comes_back(i)) {
+            memcpy(t + 455, "USD", 3);                              /* T13: rule 32 */
+            back++;
+        }
+    }
+    sample_z(file, payments);
+    return back;
+}
+
+#define LISTS (const uint8_t *)annex_ii, ANNEX_II_BYTES, (const uint8_t *)annex_i, ANNEX_I_BYTES
+static void prepare(size_t back, size_t times)
+{
+    while (times-- > 0) {
+        bool as_due;
+        if (which == STRICT) {
+            as_due = desk_prepare_strict(DESK_DIN_66003, file, bytes, LISTS, out, bytes, notes, 1).number == 0;
+        } else {
+            desk_prepared p = desk_prepare(DESK_DIN_66003, file, bytes, LISTS, out, bytes, notes, 1, returned, 9999);
+            as_due = p.number == 0 && p.returned == back;
+        }
+        if (!as_due) {
+            fprintf(stderr, "not what is due of %s\n", what[which]);
+            exit(2);
+        }
+    }
+}
+
+static double seconds(void)
+{
+    struct timespec t;
+    clock_gettime(CLOCK_MONOTONIC, &t);
+    return (double)t.tv_sec + 1e-9 * (double)t.tv_nsec;
+}
+
+int main(int argc, char **argv)
+{
+    if (argc < 3)
+        return 2;
+    payments = strtoul(argv[1], NULL, 10);
+    which = atoi(argv[2]);
+    size_t back = begin();
+    if (argc == 4) {
+        prepare(back, strtoul(argv[3], NULL, 10));
+        return 0;
+    }
+    double best = 1e9;
+    size_t times = WORK / payments;
+    for (int round = 0; round < ROUNDS; round++) {
+        double start = seconds();
+        prepare(back, times);
+        double each = (seconds() - start) / (double)(times * payments);
+        best = each < best ? each : best;
+    }
+    printf("%.1f %zu %s\n", best * 1e9, back, what[which]);
+    return 0;
+}
