@@ -1,11 +1,13 @@
-// Both sides of each edge of document 01, where each rule points (document 02, A1), and the code pages (A2), run: a line
-// for each. Where no page is told it is page 0, and page 1 in the program. Files in cuts (A3) are in the crate cuts.
+// Both sides of each edge of document 01, where each rule points (document 02, A1), the code pages (A2), and the default
+// way of prepare (A5), run: a line for each. Where no page is told it is page 0, and page 1 in the program. Files in cuts
+// (A3) are in the crate cuts.
 use drafts::say;
 use drafts::say_answer;
 use drafts::say_number;
 
 mod pages;
 mod places;
+mod returns;
 
 const LIST: [u8; 2] = *b"US";
 
@@ -230,4 +232,5 @@ fn main() {
     restore_edges();
     places::edges();
     pages::edges();
+    returns::edges();
 }
