@@ -1,14 +1,14 @@
 -- Where no T rule is broken, the default way answers and leaves what the strict way does, and names nobody.
 use Prim.Native.Nat.{ℕ, _+_, _≤_, _<_}
-use mathlib.Core.Path.{_≡_, refl, sym, ap, ap₂, _∙_}
+use mathlib.Core.Path.{_≡_, refl, sym, ap, _∙_}
 use mathlib.Core.Bool.{Bool, true, false, not, cond, false≢true}
 use mathlib.Core.List.{List, []}
 use mathlib.Core.Logic.{inl, inr}
 use native.Mathlib.Omega.{arith}
 use borrow.Author.Tests.{eqb-true, eqb-false, eq-eqb, ne-eqb, le-leb, le-ltb}
 use lib.Dec.{eqb, leb, ltb}
-use lib.ListN.{length, getD}
-use Rattle.laws.specs.Choice.{on, off, on-eq, off-eq, on-lt, off-lt}
+use lib.ListN.{length}
+use Rattle.laws.specs.Choice.{on, on-eq, off-eq}
 use Rattle.laws.specs.Scan.{first, NoneAt, Means, means}
 use Rattle.laws.specs.Steps.{empty}
 use Rattle.charset.specs.Table.{isPage}
@@ -23,7 +23,7 @@ use Rattle.judge.specs.First.{firstRule, faulty, toldAt, none}
 use Rattle.judge.specs.Content.{faultOf, ruleFrom, ruleEnd, contentOf}
 use Rattle.judge.specs.ByKind.{of-t}
 use Rattle.judge.specs.Sums.{euroSum, centSum}
-use Rattle.judge.specs.Verdict.{refused, verdictOf}
+use Rattle.judge.specs.Verdict.{verdictOf}
 use Rattle.judge.specs.Told.{told-refused, told-broken}
 use Rattle.judge.specs.declared.Breach.{Breach}
 use Rattle.judge.specs.declared.Verdict.{Verdict}
@@ -37,9 +37,8 @@ use Rattle.sorting.specs.Whole.{amount-digits, slot-is}
 use Rattle.sorting.specs.Outcome.{finds-none, holds-none}
 use Rattle.sorting.specs.Goes.{GoesOn, goes, kept-sound, kept-whole-file}
 use Rattle.sorting.specs.declared.Sorted.{Sorted}
-use Rattle.prepare.specs.Prepared.{notPrepared, done, sendOf, prepareBy, prepareOf, PreparedAs}
-use Rattle.prepare.specs.Default.{defaultBy, defaultOf, DefaultAs}
-use Rattle.prepare.specs.declared.Prepared.{Prepared}
+use Rattle.prepare.specs.Prepared.{notPrepared, done, sendOf, prepareBy, prepareOf}
+use Rattle.prepare.specs.Default.{defaultBy, defaultOf}
 use Rattle.demands.specs.Broken.{Broken}
 use Rattle.demands.specs.Sorting.{asStrict, AsStrict}
 use Rattle.demands.proofs.Alone.{one-number}

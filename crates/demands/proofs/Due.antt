@@ -3,13 +3,13 @@ use Prim.Native.Nat.{ℕ, zero, suc, _+_, _-_, _≤_, _<_}
 use mathlib.Core.Path.{_≡_, refl, sym, ap, ap₂, subst, _∙_}
 use mathlib.Core.Bool.{Bool, true, false, not, cond, false≢true}
 use mathlib.Core.List.{List, [], _∷_}
-use mathlib.Core.Logic.{_⊎_, inl, inr}
+use mathlib.Core.Logic.{inl, inr}
 use native.Mathlib.Omega.{arith}
-use borrow.Author.Tests.{eqb-true, eqb-false, eq-eqb, ne-eqb, lt-leb, not-true, not-false, ltb-true, ltb-false, lt-ltb, le-ltb}
+use borrow.Author.Tests.{eqb-true, eqb-false, ne-eqb, lt-leb, not-true, not-false, ltb-true, ltb-false, lt-ltb, le-ltb}
 use lib.Dec.{eqb, leb, ltb}
 use lib.ListN.{length, getD}
-use Rattle.laws.specs.Choice.{on, on-eq, off-eq, on-lt, off-lt}
-use Rattle.laws.specs.Scan.{first, run, Means, means}
+use Rattle.laws.specs.Choice.{on, on-eq, off-eq}
+use Rattle.laws.specs.Scan.{first, Means, means}
 use Rattle.charset.specs.Table.{isPage}
 use Rattle.rules.specs.Faults.{qFault, zFault}
 use Rattle.structure.specs.Slots.{slotAt}
@@ -18,7 +18,7 @@ use Rattle.structure.specs.Fits.{Tells, tells}
 use Rattle.structure.specs.declared.Shape.{Shape}
 use Rattle.structure.specs.declared.Shape.the-variants.{Fits, Refused}
 use Rattle.judge.specs.First.{breaks}
-use Rattle.judge.specs.Content.{faultOf, ruleFrom, ruleEnd}
+use Rattle.judge.specs.Content.{faultOf}
 use Rattle.judge.specs.ByKind.{of-q, of-z}
 use Rattle.judge.specs.Sums.{euroSum}
 use Rattle.forwarding.specs.Forwarded.{notesOf}
@@ -30,8 +30,7 @@ use Rattle.sorting.specs.Whole.{slot-is}
 use Rattle.sorting.specs.Outcome.{finds-none}
 use Rattle.sorting.specs.declared.Sorted.{Sorted}
 use Rattle.prepare.specs.Prepared.{notPrepared, done, sendOf}
-use Rattle.prepare.specs.Default.{defaultBy, defaultOf, DefaultAs}
-use Rattle.demands.specs.Page.{Page}
+use Rattle.prepare.specs.Default.{defaultBy, defaultOf}
 use Rattle.demands.specs.Sorting.{FirstOf, NoneOf, BreaksNone, qSays, zSays, FirstSpoiled, AllDigits, Proper, Sorts, Goes, Due, DefaultRefuses}
 use Rattle.demands.proofs.Alone.{one-number}
 use Rattle.demands.proofs.Pages.{is-page}

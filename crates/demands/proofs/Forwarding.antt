@@ -92,7 +92,7 @@ pub notes-are-one : NotesAreOne
 notes-are-one page file bytes = record { some = (notesOf page file, listed page file bytes); coincide = listed-one page file }
 
 -- behind what was put in front, all is as it was
-behind : (xs ys : List ℕ) (n : ℕ) → length xs ≡ n → drop n (put 0 xs ys) ≡ drop n ys
+pub behind : (xs ys : List ℕ) (n : ℕ) → length xs ≡ n → drop n (put 0 xs ys) ≡ drop n ys
 behind xs ys n e =
     let z : 0 + length xs ≡ n = omega (arith, e) in
     drop-at xs (drop (0 + length xs) ys) n e ∙ ap (λ (m : ℕ). drop m ys) z

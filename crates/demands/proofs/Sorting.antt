@@ -1,5 +1,5 @@
 -- What the default way of prepare leaves and answers, by what sorting means (sorting/specs/Goes).
-use Prim.Native.Nat.{ℕ, zero, suc, _+_, _*_, _%_, _/_, _≤_, _<_}
+use Prim.Native.Nat.{ℕ, zero, suc, _+_, _%_, _/_, _≤_, _<_}
 use mathlib.Core.Path.{_≡_, refl, sym, ap, subst, _∙_}
 use mathlib.Core.Bool.{Bool, true, false, cond}
 use mathlib.Core.List.{List, [], _∷_, _++_}
@@ -7,8 +7,8 @@ use mathlib.Core.Logic.{_⊎_, inl, inr}
 use native.Mathlib.Omega.{arith}
 use borrow.Author.Tests.{eqb-true, eqb-false, ltb-false, ne-eqb, lt-leb}
 use lib.Dec.{eqb, leb, ltb, lit<}
-use lib.ListN.{length, getD, take, drop, length-append}
-use lib.Seq.{take-at, drop-at}
+use lib.ListN.{length, take, drop, length-append}
+use lib.Seq.{take-at}
 use Rattle.laws.specs.Choice.{on, on-eq, off-eq, either}
 use Rattle.laws.specs.Scan.{Means, means}
 use Rattle.charset.specs.Table.{isPage}
@@ -28,25 +28,23 @@ use Rattle.judge.specs.Verdict.{verdictOf}
 use Rattle.forwarding.specs.Forwarded.{forwarded, notesOf}
 use Rattle.forwarding.specs.Put.{put}
 use Rattle.forwarding.specs.RoundTrip.{Bytes}
-use Rattle.sorting.specs.Kept.{kept, digits, freshZ, recordsBy, tRecords, ruleIn, keptIn, returnedIn, namedIn, keptFile}
+use Rattle.sorting.specs.Kept.{kept, digits, freshZ, recordsBy, tRecords, ruleIn, keptIn, namedIn, keptFile}
 use Rattle.sorting.specs.Sorted.{unsorted, goesOn, noAmount, ruleAt, behindQ, sortBy, sortOf}
 use Rattle.sorting.specs.Lists.{named-count, counts-add, sums-add}
-use Rattle.sorting.specs.Frame.{fit, lengths, file-is, records-count, zOf, kept-lengths}
-use Rattle.sorting.specs.Whole.{zSlot, sum-is}
+use Rattle.sorting.specs.Frame.{fit, lengths, file-is, zOf, kept-lengths}
+use Rattle.sorting.specs.Whole.{zSlot}
 use Rattle.sorting.specs.Goes.{GoesOn, goes, z-is-right, kept-sound}
 use Rattle.sorting.specs.declared.Sorted.{Sorted}
 use Rattle.prepare.specs.Prepared.{notPrepared, done, sendOf, prepareOf, PreparedAs}
 use Rattle.prepare.specs.Default.{defaultBy, defaultOf, leftBy, DefaultAs}
-use Rattle.prepare.specs.declared.Prepared.{Prepared}
 use Rattle.restore.specs.Origin.{prepared-origin}
 use Rattle.demands.specs.Sorting.{Names, Figures, SentOn, SendsTheGoodOnes, DefaultForwards, DefaultYields, DefaultTurnsBack, DefaultNumbers, DefaultKeeps, DefaultPage, DefaultSettled}
 use Rattle.demands.specs.Demand1.{FileRule}
-use Rattle.demands.specs.Page.{Page}
 use Rattle.demands.proofs.Pages.{is-page, no-page}
 use Rattle.demands.proofs.Demand1.{told, rule-not-7}
 use Rattle.demands.proofs.Demand2.{judged}
 use Rattle.demands.proofs.Demand3.{turns-back}
-use Rattle.demands.proofs.Forwarding.{forwards}
+use Rattle.demands.proofs.Forwarding.{behind, forwards}
 use Rattle.demands.proofs.Named.{names}
 
 -- the default way answers 0
@@ -88,14 +86,9 @@ module _ (page : ℕ) (file transfer cheque out notes list : List ℕ) where
             is = is;
           }
 
--- what was put in front, and behind it all is as it was
+-- what was put in front
 front : (xs ys : List ℕ) (n : ℕ) → length xs ≡ n → take n (put 0 xs ys) ≡ xs
 front xs ys n e = take-at xs (drop (0 + length xs) ys) n e
-
-behind : (xs ys : List ℕ) (n : ℕ) → length xs ≡ n → drop n (put 0 xs ys) ≡ drop n ys
-behind xs ys n e =
-    let z : 0 + length xs ≡ n = omega (arith, e) in
-    drop-at xs (drop (0 + length xs) ys) n e ∙ ap (λ (m : ℕ). drop m ys) z
 
 module _ (page : ℕ) (file transfer cheque out notes list out' notes' list' : List ℕ) (answer : Sorted)
     (promise : DefaultAs page file transfer cheque out notes list answer out' notes' list') (z : answer .number ≡ 0) where

@@ -1,5 +1,5 @@
 -- The promise of the default way, by what the code found: a refusal, which writes nothing, or success.
-use Prim.Native.Nat.{ℕ, _+_, _*_, _≤_, _<_}
+use Prim.Native.Nat.{ℕ, _+_, _*_, _≤_}
 use mathlib.Core.Path.{_≡_, refl, sym, ap, ap₂, _∙_}
 use mathlib.Core.Bool.{Bool, true, false, cond}
 use mathlib.Core.List.{List, []}
@@ -24,8 +24,7 @@ use Rattle.sorting.specs.Goes.{GoesOn, goes, kept-whole-file}
 use Rattle.sorting.specs.declared.Sorted.{Sorted}
 use Rattle.sending.specs.Whole.{CanSend, FileSent}
 use Rattle.prepare.specs.Prepared.{notPrepared, done, sendOf}
-use Rattle.prepare.specs.Default.{orRefused, defaultOf, leftBy, DefaultAs, roomMissing}
-use Rattle.prepare.specs.declared.Prepared.{Prepared}
+use Rattle.prepare.specs.Default.{orRefused, defaultOf, DefaultAs, roomMissing}
 
 -- the kept file is as long as its figures say
 kept-long : (page : ℕ) (file transfer cheque : List ℕ) (n : ℕ) → GoesOn page file transfer cheque n

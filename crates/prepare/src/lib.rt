@@ -8,7 +8,6 @@ ghost use Rattle.forwarding.specs.Forwarded.{forwarded, notesOf};
 ghost use Rattle.forwarding.specs.Put.{put};
 ghost use Rattle.forwarding.specs.Noted.{Noted};
 ghost use Rattle.forwarding.specs.Sized.{Sized};
-ghost use Rattle.sorting.specs.Sorted.{SortedAs};
 ghost use Rattle.prepare.specs.Prepared.{notPrepared, SentAs, PreparedAs};
 ghost use Rattle.prepare.specs.Default.{roomMissing, DefaultAs};
 

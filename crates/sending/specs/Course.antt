@@ -18,11 +18,11 @@ use Rattle.forwarding.specs.Put.{put-none}
 use Rattle.forwarding.specs.Sized.{zAt, Sized, fits}
 use Rattle.forwarding.specs.Noted.{Noted, noted-none, noted-is, noted-length, noted-append}
 use Rattle.judge.specs.Records.{fileOf, Lengths}
-use Rattle.place.specs.Placing.{backAs, Placed, place-first, place-next, place-same, place-last}
-use Rattle.note.specs.Noting.{NotedTo, note-first, note-room, note-next, note-same, note-last}
+use Rattle.place.specs.Placing.{backAs, Placed, place-first, place-next, place-same}
+use Rattle.note.specs.Noting.{NotedTo, note-first, note-room, note-next}
 use Rattle.sorting.specs.Kept.{kept, named}
 use Rattle.sorting.specs.Lists.{named-append}
-use Rattle.sorting.specs.Course.{placeOf, kept-more, kept-no-more, records-sized, begins-at, z-at, kept-below, kept-here}
+use Rattle.sorting.specs.Course.{placeOf, kept-more, kept-no-more, records-sized, z-at, kept-below, kept-here}
 use Rattle.sending.specs.Turns.{nextAre, Paid, RoomFor}
 use Rattle.sending.specs.declared.Next.{Next}
 

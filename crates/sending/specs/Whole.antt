@@ -1,7 +1,7 @@
 -- Sending a file: Q, the T records, and Z with fresh figures. What is then in the output is the forwarded kept file.
-use Prim.Native.Nat.{ℕ, _+_, _*_, _-_, _≤_, _<_}
-use mathlib.Core.Path.{_≡_, refl, sym, ap, ap₂, subst, _∙_}
-use mathlib.Core.List.{List, [], _∷_, _++_, append-assoc}
+use Prim.Native.Nat.{ℕ, _+_, _-_, _≤_}
+use mathlib.Core.Path.{_≡_, sym, ap, ap₂, subst, _∙_}
+use mathlib.Core.List.{List, _++_, append-assoc}
 use native.Mathlib.Omega.{arith}
 use lib.ListN.{length, drop, length-append, length-drop}
 use lib.Seq.{take-at, drop-at}
@@ -15,7 +15,6 @@ use Rattle.forwarding.specs.Put.{put, put-part}
 use Rattle.forwarding.specs.Between.{between}
 use Rattle.forwarding.specs.Changes.{notes-page}
 use Rattle.forwarding.specs.Fields.{fieldNotes}
-use Rattle.forwarding.specs.Pieces.{sentIn}
 use Rattle.forwarding.specs.Sent.{sent-all}
 use Rattle.forwarding.specs.Sized.{zAt, Sized}
 use Rattle.forwarding.specs.Noted.{Noted}
@@ -23,7 +22,7 @@ use Rattle.judge.specs.Sums.{euros}
 use Rattle.judge.specs.Records.{joined, fileOf, Lengths, sumOf}
 use Rattle.place.specs.Placing.{backAs, q-same, after-t, same-t}
 use Rattle.note.specs.Noting.{q-room, t-room, note-all}
-use Rattle.sorting.specs.Kept.{freshZ, tRecords, keptIn, namedIn, keptFile}
+use Rattle.sorting.specs.Kept.{freshZ, keptIn, namedIn, keptFile}
 use Rattle.sorting.specs.Frame.{z-is, zOf, kept-lengths, kept-sized}
 use Rattle.sending.specs.Sending.{RoomsIn, Sent}
 use Rattle.sending.specs.declared.Next.{Next}

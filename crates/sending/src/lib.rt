@@ -5,7 +5,7 @@ use records::T;
 use records::Z;
 use records::ZField;
 ghost use mathlib.Core.Path.{_≡_};
-ghost use Prim.Native.Nat.{_+_, _*_, _≤_, _<_};
+ghost use Prim.Native.Nat.{_+_, _*_, _<_};
 ghost use lib.ListN.{length};
 ghost use Rattle.sorting.specs.Kept.{digits, freshZ};
 ghost use Rattle.structure.specs.Walk.{structureOf};

@@ -6,14 +6,14 @@ use mathlib.Core.List.{List, [], _∷_, _++_}
 use native.Mathlib.Omega.{arith}
 use borrow.Author.Tests.{eqb-true, eqb-false}
 use lib.Dec.{eqb}
-use lib.ListN.{length, take, drop, length-append}
+use lib.ListN.{length, length-append}
 use lib.Seq.{take-at}
 use Rattle.laws.specs.Choice.{on-eq, off-eq}
 use Rattle.forwarding.specs.Text.{qTexts, tTexts}
 use Rattle.forwarding.specs.Forwarded.{notesOf}
 use Rattle.forwarding.specs.Between.{between}
 use Rattle.forwarding.specs.Fields.{fieldChanges}
-use Rattle.forwarding.specs.Sized.{zAt, Sized}
+use Rattle.forwarding.specs.Sized.{zAt}
 use Rattle.count.specs.Counting.{Counted, count-first, count-next, count-few, count-all}
 use Rattle.judge.specs.Sums.{euros, euros-lt}
 use Rattle.judge.specs.Records.{joined, fileOf, Lengths, sumOf}

@@ -1,6 +1,6 @@
 -- Going over a file's records: of T records us, then t, and then vs, t stands in the kept file behind the kept ones of us.
-use Prim.Native.Nat.{ℕ, zero, suc, _+_, _*_, _-_, _%_, _≤_, _<_}
-use mathlib.Core.Path.{_≡_, refl, sym, ap, ap₂, _∙_}
+use Prim.Native.Nat.{ℕ, zero, suc, _+_, _*_, _-_, _≤_, _<_}
+use mathlib.Core.Path.{_≡_, sym, ap, ap₂, _∙_}
 use mathlib.Core.List.{List, [], _∷_, _++_, append-nil}
 use native.Mathlib.Omega.{arith}
 use lib.ListN.{length, take, drop, getD, length-append}
@@ -9,7 +9,7 @@ use Rattle.records.specs.Places.{recordAt}
 use Rattle.structure.specs.Slots.{slotAt, place-is, later-width}
 use Rattle.judge.specs.Records.{fileOf, Lengths}
 use Rattle.judge.specs.ByRecords.{file-length, slot-t}
-use Rattle.judge.specs.Apart.{slotsFrom, slots-count}
+use Rattle.judge.specs.Apart.{slotsFrom}
 use Rattle.forwarding.specs.Between.{between}
 use Rattle.forwarding.specs.Sized.{zAt, Sized, Begins}
 use Rattle.sorting.specs.Kept.{kept}

@@ -1,9 +1,9 @@
 -- A file that fits, with n T records: its records, its kept file's, and record k + 1 among them.
-use Prim.Native.Nat.{ℕ, zero, suc, _+_, _*_, _-_, _≤_, _<_}
+use Prim.Native.Nat.{ℕ, suc, _+_, _-_, _≤_, _<_}
 use mathlib.Core.Path.{_≡_, sym, ap, ap₂, subst, _∙_}
 use mathlib.Core.List.{List, [], _∷_, _++_}
 use native.Mathlib.Omega.{arith}
-use lib.ListN.{length, getD}
+use lib.ListN.{length}
 use Rattle.records.specs.Places.{recordAt}
 use Rattle.structure.specs.Slots.{slotAt, q-long, t-long, z-long, place-in}
 use Rattle.structure.specs.Walk.{structureOf}
@@ -14,7 +14,7 @@ use Rattle.judge.specs.Sums.{euros}
 use Rattle.judge.specs.Records.{fileOf, AllLong, Lengths, sumOf}
 use Rattle.judge.specs.Apart.{slotsFrom, slots-count, made}
 use Rattle.forwarding.specs.Sized.{Sized}
-use Rattle.sorting.specs.Kept.{kept, freshZ, recordsBy, tRecords, ruleIn, keptIn, keptBy, keptFile}
+use Rattle.sorting.specs.Kept.{freshZ, recordsBy, tRecords, ruleIn, keptIn, keptFile}
 use Rattle.sorting.specs.Lists.{counts-add, kept-long}
 use Rattle.sorting.specs.Fresh.{fresh-long}
 use Rattle.sorting.specs.Course.{slots-append, records-sized}

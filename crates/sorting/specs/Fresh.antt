@@ -18,7 +18,7 @@ use Rattle.fields.specs.Number.{dec}
 use Rattle.fields.specs.declared.Class.the-variants.{Digit, Space}
 use Rattle.rules.specs.Z.{inZ, rule40, rule41, rule42}
 use Rattle.rules.specs.Faults.{zFault}
-use Rattle.forwarding.specs.Put.{put, put-put-at}
+use Rattle.forwarding.specs.Put.{put-put-at}
 use Rattle.structure.specs.Walk.{letterOf, digitsOf, digitsFor, lengthFor, allowed, faultIn}
 use Rattle.structure.specs.Whole.{whole, no-fault}
 use Rattle.sorting.specs.Kept.{digits, freshZ}

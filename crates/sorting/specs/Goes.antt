@@ -1,8 +1,8 @@
 -- A file that goes on: what its answer means. Its kept file is sound, and is the file itself where nothing is returned.
-use Prim.Native.Nat.{ℕ, suc, _+_, _≤_, _<_}
+use Prim.Native.Nat.{ℕ, _+_, _≤_, _<_}
 use mathlib.Core.Path.{_≡_, refl, sym, ap, subst, _∙_}
 use mathlib.Core.Bool.{Bool, true, false, cond}
-use mathlib.Core.List.{List, [], _∷_}
+use mathlib.Core.List.{List, []}
 use mathlib.Core.Logic.{inl, inr}
 use native.Mathlib.Omega.{arith}
 use borrow.Author.Tests.{eqb-true, eqb-false, ne-eqb, lt-leb}
@@ -20,11 +20,11 @@ use Rattle.judge.specs.Content.{faultOf, ruleFrom, ruleEnd, rule-real}
 use Rattle.judge.specs.Meaning.{rules-hold}
 use Rattle.judge.specs.ByKind.{of-q, of-z}
 use Rattle.judge.specs.Sums.{euros, euroSum}
-use Rattle.judge.specs.Records.{fileOf, sumOf}
-use Rattle.judge.specs.ByRecords.{Heads, structure-by-records, sound-by-records}
+use Rattle.judge.specs.Records.{sumOf}
+use Rattle.judge.specs.ByRecords.{structure-by-records, sound-by-records}
 use Rattle.judge.specs.Verdict.{verdictOf}
 use Rattle.sorting.specs.Kept.{firstOf, kept, tRecords, ruleIn, keptIn, returnedIn, keptBy, keptFile}
-use Rattle.sorting.specs.Sorted.{unsorted, goesOn, noAmount, ruleAt, refusing, behindQ, sortBy, sortOf}
+use Rattle.sorting.specs.Sorted.{unsorted, goesOn, noAmount, ruleAt, behindQ, sortBy, sortOf}
 use Rattle.sorting.specs.Fresh.{ZRight, z-right}
 use Rattle.sorting.specs.Lists.{kept-whole}
 use Rattle.sorting.specs.Sound.{Sortable, kept-sized, kept-keeps}

@@ -1,21 +1,18 @@
 -- What sorting answers, by what the code found: the judge's first broken rule, amounts, Z and the figures.
 use Prim.Native.Nat.{ℕ, _+_, _≤_, _<_}
-use mathlib.Core.Path.{_≡_, refl, sym, ap, ap₂, subst, _∙_}
+use mathlib.Core.Path.{_≡_, refl, sym, ap, subst, _∙_}
 use mathlib.Core.Bool.{Bool, true, false, not, cond, false≢true}
-use mathlib.Core.List.{List, [], _∷_}
+use mathlib.Core.List.{List}
 use mathlib.Core.Logic.{inl, inr}
 use native.Mathlib.Omega.{arith}
-use borrow.Author.Tests.{eqb-true, eqb-false, eq-eqb, ne-eqb, not-true, not-false}
+use borrow.Author.Tests.{eqb-true, eqb-false, eq-eqb, ne-eqb}
 use lib.Dec.{eqb, leb, lit<, lit≤}
-use lib.ListN.{length, getD}
-use Rattle.laws.specs.Choice.{on-eq, off-eq, either}
+use lib.ListN.{length}
+use Rattle.laws.specs.Choice.{either}
 use Rattle.laws.specs.Scan.{first, orElse, run-turn, run-end, NoneAt, Means, means}
-use Rattle.structure.specs.Slots.{slotAt}
-use Rattle.structure.specs.Walk.{structureOf}
-use Rattle.structure.specs.declared.Shape.the-variants.{Fits}
-use Rattle.judge.specs.First.{breaks, firstRule, faulty, toldAt, none, firstBroken}
+use Rattle.judge.specs.First.{breaks, firstRule, faulty, toldAt, none}
 use Rattle.judge.specs.Content.{faultOf, ruleFrom, ruleEnd, contentOf, rule-real}
-use Rattle.judge.specs.Meaning.{rules-hold, none-broken, broken}
+use Rattle.judge.specs.Meaning.{rules-hold, broken}
 use Rattle.judge.specs.Sums.{euroSum}
 use Rattle.judge.specs.Run.{slotFault, runFault, firstIn, by-itself}
 use Rattle.judge.specs.declared.Breach.{Breach}

@@ -36,7 +36,7 @@ sortedAs number rec notes payments euros =
 abbrev pub unsorted : ℕ → ℕ → Sorted
 unsorted number rec = sortedAs number rec 0 (shares 0 0) (shares 0 0)
 
--- those of a file that goes on, and how many notes the kept file has
+-- those of a file that goes on
 abbrev pub payments : ℕ → List ℕ → List ℕ → List ℕ → Shares
 payments page file transfer cheque =
     shares (length (keptIn page file transfer cheque)) (length (returnedIn page file transfer cheque))
@@ -45,6 +45,7 @@ abbrev pub euroShares : ℕ → List ℕ → List ℕ → List ℕ → Shares
 euroShares page file transfer cheque =
     shares (sumOf euros (keptIn page file transfer cheque)) (sumOf euros (returnedIn page file transfer cheque))
 
+-- and how many notes the kept file has
 abbrev pub goesOn : ℕ → List ℕ → List ℕ → List ℕ → Sorted
 goesOn page file transfer cheque =
     sortedAs 0 0 (length (notesOf page (keptFile page file transfer cheque))) (payments page file transfer cheque) (euroShares page file transfer cheque)

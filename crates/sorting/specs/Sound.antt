@@ -1,9 +1,9 @@
 -- The kept file is sound: a kept record breaks no rule, rule 21 by the first kept record asks what it asks by record 1, and
 -- the fresh Z counts and sums the kept records.
-use Prim.Native.Nat.{ℕ, _+_, _^_, _≤_, _<_}
+use Prim.Native.Nat.{ℕ, _+_, _≤_, _<_}
 use Prim.Native.Char.{code}
 use mathlib.Core.Path.{_≡_, refl, sym, ap, ap₂, _∙_}
-use mathlib.Core.Bool.{Bool, true, false, _&&_, not, cond, false≢true}
+use mathlib.Core.Bool.{Bool, true, false, not, cond, false≢true}
 use mathlib.Core.List.{List, [], _∷_}
 use mathlib.Core.Logic.{inl, inr}
 use native.Mathlib.Omega.{arith}
@@ -17,7 +17,7 @@ use Rattle.records.specs.declared.TField.the-variants.{T3, T4b}
 use Rattle.records.specs.declared.ZField.the-variants.{Z3, Z4}
 use Rattle.fields.specs.Class.{same}
 use Rattle.fields.specs.Laws.{dec-lt}
-use Rattle.rules.specs.Faults.{qFault, zFault}
+use Rattle.rules.specs.Faults.{qFault}
 use Rattle.rules.specs.Z.{inZ}
 use Rattle.payments.specs.Rules.{inT, keyOf, keyT3, keyT4b, rule21}
 use Rattle.payments.specs.Faults.{tFault}

@@ -1,11 +1,10 @@
 -- A file that breaks no rule: all its payments are kept, and the kept file is the file.
 use Prim.Native.Nat.{ℕ, _+_, _-_, _≤_, _<_}
-use mathlib.Core.Path.{_≡_, refl, sym, ap, ap₂, subst, _∙_}
+use mathlib.Core.Path.{_≡_, refl, sym, ap, ap₂, _∙_}
 use mathlib.Core.Bool.{Bool, true, false, _&&_, not, cond}
-use mathlib.Core.List.{List, [], _∷_}
+use mathlib.Core.List.{List, []}
 use native.Mathlib.Omega.{arith}
 use borrow.Author.Tests.{eq-eqb}
-use lib.Dec.{eqb}
 use lib.ListN.{length, getD}
 use Rattle.laws.specs.Steps.{empty}
 use Rattle.records.specs.declared.TField.the-variants.{T14a, T14b}
@@ -24,7 +23,7 @@ use Rattle.judge.specs.Verdict.{verdictOf}
 use Rattle.judge.specs.Told.{told-sound}
 use Rattle.judge.specs.declared.Verdict.{Verdict}
 use Rattle.forwarding.specs.Forwarded.{notesOf}
-use Rattle.sorting.specs.Kept.{firstOf, kept, returned, freshZ, tRecords, ruleIn, keptIn, returnedIn, keptFile}
+use Rattle.sorting.specs.Kept.{firstOf, freshZ, tRecords, ruleIn, keptIn, returnedIn, keptFile}
 use Rattle.sorting.specs.Sorted.{inDigits, noAmount, shares, sortedAs, goesOn}
 use Rattle.sorting.specs.Fresh.{ZRight, z-right, fresh-same}
 use Rattle.sorting.specs.Lists.{counts-add, kept-all}

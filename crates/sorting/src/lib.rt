@@ -7,8 +7,6 @@ use structure::Shape;
 ghost use mathlib.Core.Path.{_≡_};
 ghost use Prim.Native.Nat.{_+_, _*_, _≤_, _<_};
 ghost use lib.ListN.{length};
-ghost use Rattle.payments.specs.Rules.{keyOf};
-ghost use Rattle.structure.specs.Slots.{slotAt};
 ghost use Rattle.sorting.specs.Kept.{firstOf};
 ghost use Rattle.judge.specs.Sums.{euroSum};
 ghost use Rattle.sorting.specs.Sorted.{unsorted, inDigits, noAmount, ruleAt, behindQ, sortBy, SortedAs};

@@ -3,7 +3,6 @@ use borrow.Author.Needs.{needs}
 use native.Mathlib.Omega.{arith}
 use Prim.Native.Nat.{ℕ, _+_, _-_, _≤_}
 use mathlib.Core.Path.{_≡_, sym, ap, ap₂, subst, _∙_}
-use mathlib.Core.List.{List}
 use lib.ListN.{length}
 use Rattle.forwarding.specs.Text.{qTexts}
 use Rattle.forwarding.specs.Fields.{fieldChanges}
@@ -12,7 +11,6 @@ use Rattle.structure.specs.Slots.{slotAt}
 use Rattle.sorting.specs.Kept.{firstOf, ruleIn}
 use Rattle.sorting.specs.Frame.{fit, found, q-found, t-found}
 use Rattle.sorting.specs.Counting.{withOne, CountedIn, counted-q, counted-next, counted-all}
-use Rattle.sorting.specs.declared.Figures.{Figures}
 use Rattle.sorting.proofs.count_kept.Statement.{statement}
 use Rattle.sorting.proofs.count_kept.Tie as tie
 
