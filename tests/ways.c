@@ -48,22 +48,41 @@ static size_t begin(void)
     return back;
 }
 
-#define LISTS (const uint8_t *)annex_ii, ANNEX_II_BYTES, (const uint8_t *)annex_i, ANNEX_I_BYTES
+#define LENT file, bytes, (const uint8_t *)annex_ii, ANNEX_II_BYTES, (const uint8_t *)annex_i, ANNEX_I_BYTES, \
+             out, bytes, notes, 1
+#if __x86_64__
+static void strictly(desk_strict *answer) { *answer = desk_prepare_strict(DESK_DIN_66003, LENT); }
+static void sort(desk_prepared *answer) { *answer = desk_prepare(DESK_DIN_66003, LENT, returned, 9999); }
+#else
+/* The module is made for x86-64, where a long answer is written through a first argument, and so it is here. */
+#define PREPARES(name, answer, ...) \
+    void name(answer *, uint32_t, const uint8_t *, size_t, const uint8_t *, size_t, const uint8_t *, size_t, \
+              uint8_t *, size_t, uint32_t *, size_t __VA_ARGS__)
+PREPARES(strict_at, desk_strict) __asm__("desk_prepare_strict");
+PREPARES(sorted_at, desk_prepared, , uint32_t *, size_t) __asm__("desk_prepare");
+static void strictly(desk_strict *answer) { strict_at(answer, DESK_DIN_66003, LENT); }
+static void sort(desk_prepared *answer) { sorted_at(answer, DESK_DIN_66003, LENT, returned, 9999); }
+#endif
+
+static bool as_due(size_t back)
+{
+    desk_strict strict;
+    desk_prepared sorted;
+    if (which == STRICT) {
+        strictly(&strict);
+        return strict.number == 0;
+    }
+    sort(&sorted);
+    return sorted.number == 0 && sorted.returned == back;
+}
+
 static void prepare(size_t back, size_t times)
 {
-    while (times-- > 0) {
-        bool as_due;
-        if (which == STRICT) {
-            as_due = desk_prepare_strict(DESK_DIN_66003, file, bytes, LISTS, out, bytes, notes, 1).number == 0;
-        } else {
-            desk_prepared p = desk_prepare(DESK_DIN_66003, file, bytes, LISTS, out, bytes, notes, 1, returned, 9999);
-            as_due = p.number == 0 && p.returned == back;
-        }
-        if (!as_due) {
+    while (times-- > 0)
+        if (!as_due(back)) {
             fprintf(stderr, "not what is due of %s\n", what[which]);
             exit(2);
         }
-    }
 }
 
 static double seconds(void)
