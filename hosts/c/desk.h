@@ -130,7 +130,7 @@ desk_read desk_reader_end(desk_reader reader, const uint64_t *taken, size_t take
    61, measured on the kept file; 63. The record is 0 for 7 and from 43 on. So it may tell another rule than the judge does.
    What to know:
    - Rule 21 compares with record 1, also where that one is returned. Where record 1 alone has a mistyped account, all in
-     digits, it is kept and every other payment is returned.
+     digits, every other payment is returned, and record 1 is kept unless it breaks another rule.
    - The kept file has the submitted file's number (Q4, Q6, Q7): returned payments, once corrected, need another one.
    - In which field a returned payment breaks its rule is told by desk_judge_full of a small file: the first 1,024 bytes of
      out, which are a sound Q and T, then that payment, then the submitted Z. There it is record 2. */
