@@ -27,7 +27,7 @@ enum desk_page {
 
 /* Refusal numbers. */
 enum desk_number {
-    DESK_SOUND = 0,
+    DESK_SOUND = 0,                /* of desk_prepare: what is kept goes on */
     DESK_TOO_LONG = 1,             /* file longer than 7,679,744 bytes */
     DESK_CUT = 2,                  /* file ends inside a record, or where one is due */
     DESK_LENGTH_DIGITS = 3,        /* length digits wrong for the letter */
@@ -132,8 +132,9 @@ desk_read desk_reader_end(desk_reader reader, const uint64_t *taken, size_t take
    - Rule 21 compares with record 1, also where that one is returned. Where record 1 alone has a mistyped account, all in
      digits, every other payment is returned, and record 1 is kept unless it breaks another rule.
    - The kept file has the submitted file's number (Q4, Q6, Q7): returned payments, once corrected, need another one.
-   - In which field a returned payment breaks its rule is told by desk_judge_full of a small file: the first 1,024 bytes of
-     out, which are a sound Q and T, then that payment, then the submitted Z. There it is record 2. */
+   - In which field a returned payment breaks its rule is told by desk_judge_full, on the same page and with the same lists,
+     of a small file: the first 1,024 bytes of out, which are a sound Q and T, then that payment, then the submitted Z.
+     There it is record 2. */
 desk_prepared desk_prepare(uint32_t page, const uint8_t *file, size_t n,
                            const uint8_t *transfer, size_t nt, const uint8_t *cheque, size_t nc,
                            uint8_t *out, size_t out_n, uint32_t *notes, size_t notes_n,

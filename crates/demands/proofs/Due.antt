@@ -31,7 +31,7 @@ use Rattle.sorting.specs.Outcome.{finds-none}
 use Rattle.sorting.specs.declared.Sorted.{Sorted}
 use Rattle.prepare.specs.Prepared.{notPrepared, done, sendOf}
 use Rattle.prepare.specs.Default.{defaultBy, defaultOf}
-use Rattle.demands.specs.Sorting.{FirstOf, NoneOf, BreaksNone, qSays, zSays, FirstSpoiled, AllDigits, Proper, Sorts, Goes, Due, DefaultRefuses}
+use Rattle.demands.specs.Sorting.{BrokenFirst, NoneOf, BreaksNone, qSays, zSays, FirstSpoiled, AllDigits, Proper, Sorts, Goes, DueAnswer, DefaultRefuses}
 use Rattle.demands.proofs.Alone.{one-number}
 use Rattle.demands.proofs.Pages.{is-page}
 use Rattle.demands.proofs.Named.{found-first, first-found, none-found, found-none, breaks-none, is-none}
@@ -44,10 +44,10 @@ module _ (page : ℕ) (file transfer cheque : List ℕ) (n : ℕ) where
   q-alike : (r : ℕ) → 10 ≤ r → r ≤ 16 → qSays page file transfer cheque r ≡ F 0 r
   q-alike r a b = of-q page file n (euroSum file n) transfer cheque 0 r (qFault page (slotAt file 0) r) refl refl refl
 
-  q-first : (v : ℕ) → v ≡ ruleAt page file n transfer cheque 0 → (v ≡ 0 → ⊥) → FirstOf (qSays page file transfer cheque) 10 16 v
+  q-first : (v : ℕ) → v ≡ ruleAt page file n transfer cheque 0 → (v ≡ 0 → ⊥) → BrokenFirst (qSays page file transfer cheque) 10 16 v
   q-first v e f = found-first (F 0) (qSays page file transfer cheque) 10 16 q-alike (omega arith) v e f
 
-  q-is : (v : ℕ) → FirstOf (qSays page file transfer cheque) 10 16 v → ruleAt page file n transfer cheque 0 ≡ v
+  q-is : (v : ℕ) → BrokenFirst (qSays page file transfer cheque) 10 16 v → ruleAt page file n transfer cheque 0 ≡ v
   q-is v b = first-found (F 0) (qSays page file transfer cheque) 10 16 q-alike (omega arith) v b
 
   q-none : ruleAt page file n transfer cheque 0 ≡ 0 → NoneOf (qSays page file transfer cheque) 10 16
@@ -67,10 +67,10 @@ module _ (page : ℕ) (file transfer cheque : List ℕ) (n : ℕ) where
       let past : leb (n + 1) n ≡ false = lt-leb (n + 1) n (omega arith) in
       ap₂ (λ (a b : Bool). first (breaks F (n + 1)) (λ (r : ℕ). r) 0 (cond a 10 (cond b 20 40)) (cond a 17 (cond b 36 43))) later past
 
-  z-first : (v : ℕ) → v ≡ ruleAt page file n transfer cheque (n + 1) → (v ≡ 0 → ⊥) → FirstOf (zSays page file transfer cheque n) 40 42 v
+  z-first : (v : ℕ) → v ≡ ruleAt page file n transfer cheque (n + 1) → (v ≡ 0 → ⊥) → BrokenFirst (zSays page file transfer cheque n) 40 42 v
   z-first v e f = found-first (F (n + 1)) (zSays page file transfer cheque n) 40 42 z-alike (omega arith) v (e ∙ z-search) f
 
-  z-is : (v : ℕ) → FirstOf (zSays page file transfer cheque n) 40 42 v → ruleAt page file n transfer cheque (n + 1) ≡ v
+  z-is : (v : ℕ) → BrokenFirst (zSays page file transfer cheque n) 40 42 v → ruleAt page file n transfer cheque (n + 1) ≡ v
   z-is v b = z-search ∙ first-found (F (n + 1)) (zSays page file transfer cheque n) 40 42 z-alike (omega arith) v b
 
   z-none : ruleAt page file n transfer cheque (n + 1) ≡ 0 → NoneOf (zSays page file transfer cheque n) 40 42
@@ -181,7 +181,7 @@ module _ (page : ℕ) (file transfer cheque out notes list : List ℕ) (there : 
   Answers m k = (answered .number ≡ m) × (answered .rec ≡ k)
 
   abbrev DueHere : ℕ → ℕ → Type 0
-  DueHere m k = Due page file transfer cheque out notes list m k
+  DueHere m k = DueAnswer page file transfer cheque out notes list m k
 
   -- what sorting refuses, the default way refuses
   refuses : (m k : ℕ) → (m ≡ 0 → ⊥) → sortOf page file transfer cheque ≡ unsorted m k → Answers m k
@@ -393,8 +393,8 @@ default-refuses page file transfer cheque out notes list out' notes' list' answe
       λ w.
           let number = sym (ap (λ (s : Sorted). s .number) is) ∙ w .0 in
           let rec = sym (ap (λ (s : Sorted). s .rec) is) ∙ w .1 in
-          subst (λ (j : ℕ). Due page file transfer cheque out notes list m j) rec
-          (subst (λ (j : ℕ). Due page file transfer cheque out notes list j (defaultOf page file transfer cheque out notes list .rec)) number
+          subst (λ (j : ℕ). DueAnswer page file transfer cheque out notes list m j) rec
+          (subst (λ (j : ℕ). DueAnswer page file transfer cheque out notes list j (defaultOf page file transfer cheque out notes list .rec)) number
           (due page file transfer cheque out notes list p)),
       λ d.
           let w = answers page file transfer cheque out notes list p m k d in

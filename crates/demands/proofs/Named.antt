@@ -18,7 +18,7 @@ use Rattle.sorting.specs.Kept.{firstOf, named, ruleIn, namedIn}
 use Rattle.sorting.specs.Sound.{first-below}
 use Rattle.sorting.specs.Frame.{records-are}
 use Rattle.sorting.specs.Outcome.{finds-none}
-use Rattle.demands.specs.Sorting.{FirstOf, NoneOf, tSays, BreaksFirst, BreaksNone, Names, NamesAreOne}
+use Rattle.demands.specs.Sorting.{BrokenFirst, NoneOf, tSays, BreaksFirst, BreaksNone, Names, NamesAre, NamesAreOne}
 use Rattle.demands.proofs.Alone.{one-number, same-rising}
 
 -- of any list of records: rule tells of each its first broken rule, or 0
@@ -101,10 +101,10 @@ module _ (G says : ℕ → ℕ) (from to : ℕ) (alike : (r : ℕ) → from ≤ 
   abbrev found : ℕ
   found = first breaks (λ (r : ℕ). r) 0 from (to + 1)
 
-  pub found-first : (v : ℕ) → v ≡ found → (v ≡ 0 → ⊥) → FirstOf says from to v
+  pub found-first : (v : ℕ) → v ≡ found → (v ≡ 0 → ⊥) → BrokenFirst says from to v
   found-first v e f = by v f (subst (Means breaks (λ (r : ℕ). r) 0 from (to + 1)) (sym e) (means breaks (λ (r : ℕ). r) 0 from (to + 1)))
     where
-      by : (v : ℕ) → (v ≡ 0 → ⊥) → Means breaks (λ (r : ℕ). r) 0 from (to + 1) v → FirstOf says from to v
+      by : (v : ℕ) → (v ≡ 0 → ⊥) → Means breaks (λ (r : ℕ). r) 0 from (to + 1) v → BrokenFirst says from to v
       by v f (inl p) = absurd (f (p .0))
       by v f (inr p) =
           let up : from ≤ v = omega (arith, p .answer, p .above) in
@@ -116,7 +116,7 @@ module _ (G says : ℕ → ℕ) (from to : ℕ) (alike : (r : ℕ) → from ≤ 
             none-before = λ r a b. alike r a (omega arith) ∙ eqb-true (G r) 0 (not-false _ (p .before r a (omega (arith, p .answer))));
           }
 
-  pub first-found : (rule : ℕ) → FirstOf says from to rule → found ≡ rule
+  pub first-found : (rule : ℕ) → BrokenFirst says from to rule → found ≡ rule
   first-found rule b = by found (means breaks (λ (r : ℕ). r) 0 from (to + 1))
     where
       is-broken : breaks rule ≡ true
@@ -192,6 +192,9 @@ module _ (page : ℕ) (file transfer cheque : List ℕ) (n : ℕ) where
 
   pub names : structureOf file ≡ Fits n → Names page file transfer cheque n (namedIn page file transfer cheque)
   names e = subst (λ (ts : List (List ℕ)). Names page file transfer cheque n (named rule 1 ts)) (sym (records-are file n e)) names-all
+
+pub names-are : NamesAre
+names-are page file transfer cheque n e = names page file transfer cheque n e
 
 -- each name of one list is in the other, and both rise
 pub names-are-one : NamesAreOne

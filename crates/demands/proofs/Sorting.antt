@@ -15,13 +15,12 @@ use Rattle.charset.specs.Table.{isPage}
 use Rattle.records.specs.Places.{recordAt}
 use Rattle.structure.specs.Slots.{widthAt, slotAt}
 use Rattle.structure.specs.Walk.{structureOf}
+use Rattle.structure.specs.Fits.{Tells, tells}
 use Rattle.structure.specs.declared.Shape.{Shape}
 use Rattle.structure.specs.declared.Shape.the-variants.{Fits, Refused}
 use Rattle.judge.specs.First.{breaks, firstRule}
 use Rattle.judge.specs.Content.{faultOf, ruleFrom, ruleEnd}
 use Rattle.judge.specs.Sums.{euros, euroSum}
-use Rattle.judge.specs.Told.{told-refused}
-use Rattle.judge.specs.declared.Verdict.{Verdict}
 use Rattle.judge.specs.Records.{joined, fileOf, sumOf}
 use Rattle.judge.specs.Apart.{slotsFrom}
 use Rattle.judge.specs.Verdict.{verdictOf}
@@ -38,10 +37,9 @@ use Rattle.sorting.specs.declared.Sorted.{Sorted}
 use Rattle.prepare.specs.Prepared.{notPrepared, done, sendOf, prepareOf, PreparedAs}
 use Rattle.prepare.specs.Default.{defaultBy, defaultOf, leftBy, DefaultAs}
 use Rattle.restore.specs.Origin.{prepared-origin}
-use Rattle.demands.specs.Sorting.{Names, Figures, SentOn, SendsTheGoodOnes, DefaultForwards, DefaultYields, DefaultTurnsBack, DefaultNumbers, DefaultKeeps, DefaultPage, DefaultSettled}
-use Rattle.demands.specs.Demand1.{FileRule}
+use Rattle.demands.specs.Sorting.{RefusingRule, Names, Figures, SentOn, SendsTheGoodOnes, DefaultForwards, DefaultYields, DefaultTurnsBack, DefaultNumbers, DefaultKeeps, DefaultPage, DefaultSettled}
 use Rattle.demands.proofs.Pages.{is-page, no-page}
-use Rattle.demands.proofs.Demand1.{told, rule-not-7}
+use Rattle.demands.proofs.Turns.{told-first, walk-range}
 use Rattle.demands.proofs.Demand2.{judged}
 use Rattle.demands.proofs.Demand3.{turns-back}
 use Rattle.demands.proofs.Forwarding.{behind, forwards}
@@ -246,7 +244,7 @@ sends-the-good-ones page file transfer cheque out notes list out' notes' list' a
 
 -- on a page that there is, an answer is 0, or a refusal with one of these numbers and zeros
 abbrev Number : ℕ → Type 0
-Number n = FileRule n ⊎ ((n ≡ 43) ⊎ ((n ≡ 60) ⊎ ((n ≡ 61) ⊎ (n ≡ 63))))
+Number n = RefusingRule n ⊎ ((n ≡ 43) ⊎ ((n ≡ 60) ⊎ ((n ≡ 61) ⊎ (n ≡ 63))))
 
 abbrev Plain : Sorted → Type 0
 Plain s = (s .number ≡ 0) ⊎ (Number (s .number) × (s ≡ unsorted (s .number) (s .rec)))
@@ -257,6 +255,14 @@ rule-range F lo hi k = go (firstRule F lo hi k) (means (breaks F k) (λ (r : ℕ
     go : (v : ℕ) → Means (breaks F k) (λ (r : ℕ). r) 0 (lo k) (hi k) v → (v ≡ 0) ⊎ ((lo k ≤ v) × (v < hi k))
     go v (inl p) = inl (p .0)
     go v (inr p) = inr (omega (arith, p .answer, p .above), omega (arith, p .answer, p .below))
+
+-- the walk refuses with 1 to 5
+walk-number : (file : List ℕ) (m k : ℕ) → Tells file (Refused m k) → (1 ≤ m) × (m ≤ 5)
+walk-number file m k (inl t) = (omega (arith, t .1), omega (arith, t .1))
+walk-number file m k (inr t) =
+    let f = told-first k (slotAt file k) m (t .1 .broken) (t .1 .real) in
+    let r = walk-range k (slotAt file k) (f .turn) m (f .there) in
+    (omega (arith, r .0), r .1)
 
 module _ (page : ℕ) (file transfer cheque : List ℕ) where
   q-number : (n v : ℕ) → (v ≡ 0) ⊎ ((10 ≤ v) × (v < 17)) → Plain (unsorted v 0)
@@ -284,7 +290,7 @@ module _ (page : ℕ) (file transfer cheque : List ℕ) where
       (either Plain (eqb (ruleAt page file n transfer cheque (n + 1)) 0) _ (unsorted (ruleAt page file n transfer cheque (n + 1)) (n + 1))
       (either Plain (eqb (length (keptIn page file transfer cheque)) 0) (unsorted 43 0) (goesOn page file transfer cheque) (inr (inr (inl refl), refl)) (inl refl))
       (z-number (n + 1) (ruleAt page file n transfer cheque (n + 1)) (z-range n)))
-      (inr (inl (inr (inr (inl (omega arith, omega arith)))), refl))
+      (inr (inl (inr (inr (inl refl))), refl))
 
   sort-plain : isPage page ≡ true → Plain (sortOf page file transfer cheque)
   unfolding sortOf
@@ -294,11 +300,7 @@ module _ (page : ℕ) (file transfer cheque : List ℕ) where
       shape (Fits n) e =
           either Plain (eqb (ruleAt page file n transfer cheque 0) 0) (behindQ page file n transfer cheque) (unsorted (ruleAt page file n transfer cheque 0) 0) (behind-plain n)
           (q-number n (ruleAt page file n transfer cheque 0) (rule-range (faultOf page file n (euroSum file n) transfer cheque) (ruleFrom n) (ruleEnd n) 0))
-      shape (Refused number rec) e = by number (ap (λ (v : Verdict). v .number) (told-refused page file transfer cheque number rec e)) (told page file transfer cheque)
-        where
-          by : (m : ℕ) → m ≡ verdictOf page file transfer cheque .number → (verdictOf page file transfer cheque .number ≡ 0) ⊎ FileRule (verdictOf page file transfer cheque .number) → Plain (unsorted m rec)
-          by m q (inl p) = inl (q ∙ p)
-          by m q (inr p) = inr (inl (subst FileRule (sym q) p), refl)
+      shape (Refused number rec) e = inr (inl (inl (walk-number file number rec (rw e at (tells file)))), refl)
 
   module _ (out notes list : List ℕ) where
     default-plain : isPage page ≡ true → Plain (defaultOf page file transfer cheque out notes list)
@@ -349,21 +351,24 @@ module _ (page : ℕ) (file transfer cheque out notes list out' notes' list' : L
 
   number-7 : Plain answer → answer .number ≡ 7 → ⊥
   number-7 (inl z) e = omega (arith, z, e)
-  number-7 (inr (inl r, q)) e = rule-not-7 (answer .number) r e
+  number-7 (inr (inl (inl r), q)) e = omega (arith, r .1, e)
+  number-7 (inr (inl (inr (inl r)), q)) e = omega (arith, r .0, e)
+  number-7 (inr (inl (inr (inr (inl r))), q)) e = omega (arith, r, e)
+  number-7 (inr (inl (inr (inr (inr r))), q)) e = omega (arith, r .0, e)
   number-7 (inr (inr (inl r), q)) e = omega (arith, r, e)
   number-7 (inr (inr (inr (inl r)), q)) e = omega (arith, r, e)
   number-7 (inr (inr (inr (inr (inl r))), q)) e = omega (arith, r, e)
   number-7 (inr (inr (inr (inr (inr r))), q)) e = omega (arith, r, e)
 
-  numbers : (answer .number ≡ 0) ⊎ (FileRule (answer .number) ⊎ ((answer .number ≡ 7) ⊎ ((answer .number ≡ 43) ⊎ ((answer .number ≡ 60) ⊎ ((answer .number ≡ 61) ⊎ (answer .number ≡ 63))))))
+  numbers : (answer .number ≡ 0) ⊎ (RefusingRule (answer .number) ⊎ ((answer .number ≡ 7) ⊎ ((answer .number ≡ 43) ⊎ ((answer .number ≡ 60) ⊎ ((answer .number ≡ 61) ⊎ (answer .number ≡ 63))))))
   numbers = go (isPage page) refl
     where
-      plain : Plain answer → (answer .number ≡ 0) ⊎ (FileRule (answer .number) ⊎ ((answer .number ≡ 7) ⊎ ((answer .number ≡ 43) ⊎ ((answer .number ≡ 60) ⊎ ((answer .number ≡ 61) ⊎ (answer .number ≡ 63))))))
+      plain : Plain answer → (answer .number ≡ 0) ⊎ (RefusingRule (answer .number) ⊎ ((answer .number ≡ 7) ⊎ ((answer .number ≡ 43) ⊎ ((answer .number ≡ 60) ⊎ ((answer .number ≡ 61) ⊎ (answer .number ≡ 63))))))
       plain (inl z) = inl z
       plain (inr (inl r, q)) = inr (inl r)
       plain (inr (inr r, q)) = inr (inr (inr r))
 
-      go : (t : Bool) → isPage page ≡ t → (answer .number ≡ 0) ⊎ (FileRule (answer .number) ⊎ ((answer .number ≡ 7) ⊎ ((answer .number ≡ 43) ⊎ ((answer .number ≡ 60) ⊎ ((answer .number ≡ 61) ⊎ (answer .number ≡ 63))))))
+      go : (t : Bool) → isPage page ≡ t → (answer .number ≡ 0) ⊎ (RefusingRule (answer .number) ⊎ ((answer .number ≡ 7) ⊎ ((answer .number ≡ 43) ⊎ ((answer .number ≡ 60) ⊎ ((answer .number ≡ 61) ⊎ (answer .number ≡ 63))))))
       go true t = plain (on-page t)
       go false t = inr (inr (inl (ap (λ (s : Sorted). s .number) (off-page t))))
 

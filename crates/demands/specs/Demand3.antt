@@ -54,7 +54,7 @@ abbrev pub YieldsItself : Type 0
 YieldsItself =
     (page : ℕ) (transfer cheque file sent notes : List ℕ) → Yields page transfer cheque file sent notes → Yields page transfer cheque sent sent []
 
--- what prepare left, restore turns back into the file
+-- what the strict way of prepare left, restore turns back into the file; of the default way see Sorting `DefaultTurnsBack`
 abbrev pub TurnsBack : Type 0
 TurnsBack =
     (page : ℕ) (transfer cheque file out notes out' notes' room room' : List ℕ) (prepared : Prepared) (restored : Restored) → Bytes file

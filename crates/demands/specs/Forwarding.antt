@@ -1,7 +1,7 @@
 -- Demand 2: "The forwarded file is the sound file with each text character replaced by the table, and the notes list
 -- every changed character once, by rising place." (RULES 10.1, 10.2) And when prepare forwards, by document 01: it
 -- "reads soundness, then 60, then 61, each only in that case; record 0 for both and for success" (RULES 9.4). Document 02,
--- A2: "under a fixed code page and fixed lists".
+-- A2: "under a fixed code page and fixed lists". Of prepare it is the strict way here; of the default way see Sorting.
 use Prim.Native.Nat.{ℕ, _+_, _*_, _/_, _≤_, _<_}
 use mathlib.Core.Path.{_≡_}
 use mathlib.Core.Bool.{true, false}

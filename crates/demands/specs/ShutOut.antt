@@ -43,7 +43,7 @@ WavesThrough =
     → ((file transfer cheque : List ℕ) → BrokenLater page transfer cheque file → judge file transfer cheque [] .number ≡ 0)
     → NoJudge page judge
 
--- a prepare: from file, lists, output and note places its answer, and what it leaves in the two
+-- a prepare, the strict way: from file, lists, output and note places its answer, and what it leaves in the two
 abbrev pub Prepare : Type 0
 Prepare = List ℕ → List ℕ → List ℕ → List ℕ → List ℕ → Prepared × List ℕ × List ℕ
 

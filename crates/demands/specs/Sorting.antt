@@ -30,14 +30,13 @@ use Rattle.restore.specs.Restored.{RestoredAs}
 use Rattle.restore.specs.declared.Restored.{Restored}
 use Rattle.demands.specs.Page.{Page}
 use Rattle.demands.specs.Broken.{Broken}
-use Rattle.demands.specs.Demand1.{FileRule}
 use Rattle.demands.specs.Demand2.{Sound}
 use Rattle.demands.specs.Demand3.{Yields}
 use Rattle.demands.specs.Forwarding.{Sent}
 use Rattle.demands.specs.Settled.{Settled}
 
 -- of rules that say 0 or a place: this one is broken, of those in a range, and none before it; and none is
-pub record FirstOf (says : ℕ → ℕ) (from to rule : ℕ) : Type 0 where
+pub record BrokenFirst (says : ℕ → ℕ) (from to rule : ℕ) : Type 0 where
   pub low : from ≤ rule
   pub high : rule ≤ to
   pub broken : says rule ≡ 0 → ⊥
@@ -53,7 +52,7 @@ module _ (page : ℕ) (file transfer cheque : List ℕ) where
 
   -- the first that T record k breaks of "T rules (20 to 35)"; or it breaks none
   abbrev pub BreaksFirst : ℕ → ℕ → Type 0
-  BreaksFirst k rule = FirstOf (tSays k) 20 35 rule
+  BreaksFirst k rule = BrokenFirst (tSays k) 20 35 rule
 
   abbrev pub BreaksNone : ℕ → Type 0
   BreaksNone k = NoneOf (tSays k) 20 35
@@ -64,7 +63,11 @@ module _ (page : ℕ) (file transfer cheque : List ℕ) where
     pub only : (i : ℕ) → i < length list → (k : ℕ) × (rule : ℕ) × (1 ≤ k) × (k ≤ n) × BreaksFirst k rule × (getD list i 0 ≡ k * 100 + rule)
     pub rising : (i j : ℕ) → i < j → j < length list → getD list i 0 < getD list j 0
 
--- there is one such list
+-- the names that the definition gives, and that 63 counts, are these; and there is one such list
+abbrev pub NamesAre : Type 0
+NamesAre =
+    (page : ℕ) (file transfer cheque : List ℕ) (n : ℕ) → structureOf file ≡ Fits n → Names page file transfer cheque n (namedIn page file transfer cheque)
+
 abbrev pub NamesAreOne : Type 0
 NamesAreOne = (page : ℕ) (file transfer cheque : List ℕ) (n : ℕ) → Settled (λ (list : List ℕ). Names page file transfer cheque n list)
 
@@ -138,13 +141,17 @@ AsStrict =
     → ((m j i : ℕ) → 20 ≤ m → m ≤ 35 → Broken page transfer cheque file m j i → ⊥)
     → PreparedAs page file transfer cheque out notes (asStrict answer) out' notes' × (list' ≡ list) × (answer .payments .returned ≡ 0)
 
+-- the rules that refuse a file: structure, Q's, 33 for a non-digit, and Z's
+abbrev pub RefusingRule : ℕ → Type 0
+RefusingRule n = ((1 ≤ n) × (n ≤ 5)) ⊎ (((10 ≤ n) × (n ≤ 16)) ⊎ ((n ≡ 33) ⊎ ((40 ≤ n) × (n ≤ 42))))
+
 -- demand 1: the numbers that it answers, and that a refused call changes no byte that it was lent; figures are "0 when refused"
 abbrev pub DefaultNumbers : Type 0
 DefaultNumbers =
     (page : ℕ) (file transfer cheque out notes list out' notes' list' : List ℕ) (answer : Sorted)
     → DefaultAs page file transfer cheque out notes list answer out' notes' list'
     → (answer .number ≡ 0)
-    ⊎ (FileRule (answer .number)
+    ⊎ (RefusingRule (answer .number)
     ⊎ ((answer .number ≡ 7) ⊎ ((answer .number ≡ 43) ⊎ ((answer .number ≡ 60) ⊎ ((answer .number ≡ 61) ⊎ (answer .number ≡ 63))))))
 
 abbrev pub DefaultKeeps : Type 0
@@ -208,15 +215,16 @@ module _ (page : ℕ) (file transfer cheque : List ℕ) where
 
   -- number and record that are due, in A5's order
   module _ (out notes list : List ℕ) (number rec : ℕ) where
+    -- it goes on, and the output has room for the kept file
     abbrev pub InFull : Type 0
     InFull = (n : ℕ) × Goes n × (length (keptFile page file transfer cheque) ≤ length out)
 
-    abbrev pub Due : Type 0
-    Due =
+    abbrev pub DueAnswer : Type 0
+    DueAnswer =
         (structureOf file ≡ Refused number rec)
-        ⊎ (((n : ℕ) × (structureOf file ≡ Fits n) × FirstOf qSays 10 16 number × (rec ≡ 0))
+        ⊎ (((n : ℕ) × (structureOf file ≡ Fits n) × BrokenFirst qSays 10 16 number × (rec ≡ 0))
         ⊎ (((n : ℕ) × Proper n × FirstSpoiled n rec × (number ≡ 33))
-        ⊎ (((n : ℕ) × Proper n × AllDigits n × FirstOf (zSays n) 40 42 number × (rec ≡ n + 1))
+        ⊎ (((n : ℕ) × Proper n × AllDigits n × BrokenFirst (zSays n) 40 42 number × (rec ≡ n + 1))
         ⊎ (((n : ℕ) × Sorts n × ((k : ℕ) → 1 ≤ k → k ≤ n → BreaksNone page file transfer cheque k → ⊥) × (number ≡ 43) × (rec ≡ 0))
         ⊎ (((n : ℕ) × Goes n × (length out < length (keptFile page file transfer cheque)) × (number ≡ 60) × (rec ≡ 0))
         ⊎ ((InFull × (length notes < length (notesOf page (keptFile page file transfer cheque))) × (number ≡ 61) × (rec ≡ 0))
@@ -227,4 +235,4 @@ abbrev pub DefaultRefuses : Type 0
 DefaultRefuses =
     (page : ℕ) (file transfer cheque out notes list out' notes' list' : List ℕ) (answer : Sorted) → Page page
     → DefaultAs page file transfer cheque out notes list answer out' notes' list'
-    → (number rec : ℕ) → ((answer .number ≡ number) × (answer .rec ≡ rec)) ↔ Due page file transfer cheque out notes list number rec
+    → (number rec : ℕ) → ((answer .number ≡ number) × (answer .rec ≡ rec)) ↔ DueAnswer page file transfer cheque out notes list number rec

@@ -1,6 +1,6 @@
 -- Document 02, A5: "New default for prepare: when only T rules (20 to 35) are broken, those records come back and the rest
 -- goes on." (RULES 9.9)
-use Prim.Native.Nat.{ℕ, _+_, _*_}
+use Prim.Native.Nat.{ℕ}
 use mathlib.Core.Path.{_≡_}
 use mathlib.Core.Bool.{cond}
 use mathlib.Core.List.{List}
@@ -40,9 +40,3 @@ pub record DefaultAs (page : ℕ) (file transfer cheque out notes list : List �
   pub out-is : out' ≡ leftBy answer (forwarded page (keptFile page file transfer cheque)) out
   pub notes-are : notes' ≡ leftBy answer (notesOf page (keptFile page file transfer cheque)) notes
   pub list-is : list' ≡ leftBy answer (namedIn page file transfer cheque) list
-
--- the room that a kept file lacks, by its figures
-abbrev pub roomMissing : Sorted → ℕ → ℕ → ℕ → ℕ
-roomMissing sorted bytes places names =
-    cond (ltb bytes (512 + 768 * sorted .payments .kept)) 60
-    (cond (ltb places (sorted .notes)) 61 (cond (ltb names (sorted .payments .returned)) 63 0))

@@ -24,7 +24,13 @@ use Rattle.sorting.specs.Goes.{GoesOn, goes, kept-whole-file}
 use Rattle.sorting.specs.declared.Sorted.{Sorted}
 use Rattle.sending.specs.Whole.{CanSend, FileSent}
 use Rattle.prepare.specs.Prepared.{notPrepared, done, sendOf}
-use Rattle.prepare.specs.Default.{orRefused, defaultOf, DefaultAs, roomMissing}
+use Rattle.prepare.specs.Default.{orRefused, defaultOf, DefaultAs}
+
+-- the room that a kept file lacks, by its figures: the refusals of the rooms in one number
+abbrev pub roomMissing : Sorted → ℕ → ℕ → ℕ → ℕ
+roomMissing sorted bytes places names =
+    cond (ltb bytes (512 + 768 * sorted .payments .kept)) 60
+    (cond (ltb places (sorted .notes)) 61 (cond (ltb names (sorted .payments .returned)) 63 0))
 
 -- the kept file is as long as its figures say
 kept-long : (page : ℕ) (file transfer cheque : List ℕ) (n : ℕ) → GoesOn page file transfer cheque n
@@ -33,7 +39,7 @@ unfolding keptFile
 kept-long page file transfer cheque n g =
     file-length (slotAt file 0) (keptIn page file transfer cheque) (zOf file n (g .fits) page transfer cheque) (kept-lengths file n (g .fits) page transfer cheque)
 
--- the refusals of the rooms in one number
+-- which they tell
 rooms-told : (s : Sorted) (m : ℕ) (a b c : Bool)
     → cond (eqb (cond a (notPrepared 60 0) (cond b (notPrepared 61 0) (done m)) .number) 0) (cond c (unsorted 63 0) s)
     (unsorted (cond a (notPrepared 60 0) (cond b (notPrepared 61 0) (done m)) .number) (cond a (notPrepared 60 0) (cond b (notPrepared 61 0) (done m)) .rec))
@@ -80,10 +86,6 @@ module _ (page : ℕ) (file transfer cheque out notes list : List ℕ) {s : Sort
 
     pub few : s .payments .kept ≤ 9999
     few = omega (arith, kept-is, kept-few file n (g .fits) page transfer cheque)
-
-    pub all-few : s .payments .kept + s .payments .returned ≤ 9999
-    all-few =
-        omega (arith, kept-is, returned-is, counts-add (ruleIn page file transfer cheque) (tRecords file), records-count file n (g .fits), fit file n (g .fits) .most)
 
     long : length K ≡ 512 + 768 * s .payments .kept
     long = kept-long page file transfer cheque n g ∙ ap (λ (m : ℕ). 512 + 768 * m) (sym kept-is)
@@ -146,10 +148,9 @@ module _ (page : ℕ) (file transfer cheque out notes list : List ℕ) {s : Sort
               (sym (put-none 0 list) ∙ ap (λ (l : List ℕ). put 0 l list) (sym nobody))
 
         -- some are
-        pub can-send : {payments : ℕ} → payments ≡ s .payments .kept + s .payments .returned
-            → CanSend page file payments transfer cheque (s .payments .kept) (s .euros .kept) out notes list
-        can-send {payments} p =
-            let all : payments ≡ n = omega (arith, p, kept-is, returned-is, counts-add (ruleIn page file transfer cheque) (tRecords file), records-count file n (g .fits)) in
+        pub can-send : CanSend page file (s .payments .kept + s .payments .returned) transfer cheque (s .payments .kept) (s .euros .kept) out notes list
+        can-send =
+            let all : s .payments .kept + s .payments .returned ≡ n = omega (arith, kept-is, returned-is, counts-add (ruleIn page file transfer cheque) (tRecords file), records-count file n (g .fits)) in
             record {
               fits = g .fits ∙ ap Fits (sym all);
               kept-is = kept-is;
@@ -159,6 +160,6 @@ module _ (page : ℕ) (file transfer cheque out notes list : List ℕ) {s : Sort
               names = all-there .2;
             }
 
-        pub default-sent : {m : ℕ} {out' notes' list' : List ℕ} → FileSent page file transfer cheque out notes list m out' notes' list'
+        pub default-sent : {out' notes' list' : List ℕ} → FileSent page file transfer cheque out notes list out' notes' list'
             → DefaultAs page file transfer cheque out notes list s out' notes' list'
-        default-sent f = writes (f .output) (f .noted .places-are) (f .listed)
+        default-sent f = writes (f .output) (f .noted) (f .listed)

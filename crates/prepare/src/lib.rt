@@ -2,14 +2,16 @@
 // takes a sound file whole; the default way sends the payments that break no rule, and names the others.
 use sorting::Sorted;
 ghost use mathlib.Core.Path.{_≡_};
-ghost use Prim.Native.Nat.{_≤_};
+ghost use Prim.Native.Nat.{_+_, _≤_};
 ghost use lib.ListN.{length};
 ghost use Rattle.forwarding.specs.Forwarded.{forwarded, notesOf};
 ghost use Rattle.forwarding.specs.Put.{put};
 ghost use Rattle.forwarding.specs.Noted.{Noted};
 ghost use Rattle.forwarding.specs.Sized.{Sized};
 ghost use Rattle.prepare.specs.Prepared.{notPrepared, SentAs, PreparedAs};
-ghost use Rattle.prepare.specs.Default.{roomMissing, DefaultAs};
+ghost use Rattle.sending.specs.Whole.{CanSend, FileSent};
+ghost use Rattle.prepare.specs.Default.{DefaultAs};
+ghost use Rattle.prepare.specs.DefaultOutcome.{roomMissing};
 
 // Number 0, record 0 and how many notes there are; or the number of a refusal, its record, and 0.
 #[repr(C)]
@@ -115,6 +117,28 @@ fn room_missing(sorted: Sorted, bytes: usize, places: usize, names: usize) -> us
     0
 }
 
+// The kept payments of a file that was sorted, and the names of the others.
+fn send_kept(
+    page: u32,
+    file: &[u8],
+    sorted: Sorted,
+    transfer: &[u8],
+    cheque: &[u8],
+    out: &mut [u8],
+    notes: &mut [u32],
+    list: &mut [u32],
+)
+    requires { ⌜ CanSend page (now file) (sorted .payments .kept + sorted .payments .returned) (now transfer) (now cheque) (sorted .payments .kept) (sorted .euros .kept) (now out) (now notes) (now list) ⌝ }
+    ensures { λ _. ⌜ FileSent page (now (file .entry)) (now (transfer .entry)) (now (cheque .entry)) (now (out .entry)) (now (notes .entry)) (now (list .entry)) (now (out .exit)) (now (notes .exit)) (now (list .exit)) ⌝ }
+{
+    let payments = sorted.payments;
+    let euros = sorted.euros;
+    let kept = payments.kept;
+    let sum = euros.kept;
+    let n = (kept + payments.returned) as usize;
+    sending::file(page, file, n, transfer, cheque, kept, sum, out, notes, list);
+}
+
 // The default way. Sorting's refusals, then 60, 61 and 63; then the payments that are kept go on, and the others are named.
 // A file with nothing to return goes on whole.
 pub fn prepare(
@@ -142,19 +166,6 @@ pub fn prepare(
         write(page, file, sorted.notes, out, notes);
         return sorted;
     }
-    let n = (payments.kept + payments.returned) as usize;
-    let euros = sorted.euros;
-    sending::file(
-        page,
-        file,
-        n,
-        transfer,
-        cheque,
-        payments.kept,
-        euros.kept,
-        out,
-        notes,
-        list,
-    );
+    send_kept(page, file, sorted, transfer, cheque, out, notes, list);
     sorted
 }

@@ -37,9 +37,9 @@ pub record CanSend (page : ℕ) (file : List ℕ) (n : ℕ) (transfer cheque : L
   pub names : length (namedIn page file transfer cheque) ≤ length list
 
 -- and what it leaves
-pub record FileSent (page : ℕ) (file transfer cheque out notes list : List ℕ) (n : ℕ) (out' notes' list' : List ℕ) : Type 0 where
+pub record FileSent (page : ℕ) (file transfer cheque out notes list out' notes' list' : List ℕ) : Type 0 where
   pub output : out' ≡ put 0 (forwarded page (keptFile page file transfer cheque)) out
-  pub noted : Noted (notesOf page (keptFile page file transfer cheque)) 0 notes notes' n
+  pub noted : notes' ≡ put 0 (notesOf page (keptFile page file transfer cheque)) notes
   pub listed : list' ≡ put 0 (namedIn page file transfer cheque) list
 
 -- the records of a file, at both ends
@@ -106,7 +106,7 @@ module _ (page : ℕ) (file : List ℕ) (n : ℕ) (transfer cheque : List ℕ) {
 
       -- and then Z
       pub all-sent : {z fz : List ℕ} → z ≡ slotAt file (n + 1) → fz ≡ freshZ z kept sum
-          → FileSent page file transfer cheque out notes list (next .notes) (backAs (next .at) (next .at + 256) fz out₂) notes₂ list₂
+          → FileSent page file transfer cheque out notes list (backAs (next .at) (next .at + 256) fz out₂) notes₂ list₂
       all-sent {z} {fz} s f =
           let fresh : fz ≡ drop (zAt whole) whole =
           f ∙ (λ i. freshZ (s i) (can .kept-is i) (can .sum-is i))
@@ -119,6 +119,6 @@ module _ (page : ℕ) (file : List ℕ) (n : ℕ) (transfer cheque : List ℕ) {
                 (after-t page whole out sized (can .bytes) ys placed-q e₁ (sent .placed))
                 (put-part (next .at) (next .at + 256) fz out₂ (omega arith) wide
                 ∙ ap₂ (λ (a : ℕ) (xs : List ℕ). put a xs out₂) (sent .at-is) fresh);
-            noted = note-all whole notes sized room-0 noted-q (sent .noted) page;
+            noted = note-all whole notes sized room-0 noted-q (sent .noted) page .places-are;
             listed = sent .listed .places-are;
           }

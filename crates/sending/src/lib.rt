@@ -85,7 +85,7 @@ fn payment(
     }
 }
 
-// The T records of a file with n of them: the kept ones from Q's end on, their notes behind the first.
+// The T records of a file with n of them: the kept ones from Q's end on, their notes behind Q's, of which there are `have`.
 fn t_records(
     page: u32,
     file: &[u8],
@@ -116,8 +116,7 @@ fn t_records(
     next
 }
 
-// The kept file into the output, its notes, and the names of what comes back; how many notes there are. It keeps so many
-// payments with so many euros.
+// The kept file into the output, its notes, and the names of what comes back. It keeps so many payments with so many euros.
 pub fn file(
     page: u32,
     file: &[u8],
@@ -129,9 +128,9 @@ pub fn file(
     out: &mut [u8],
     notes: &mut [u32],
     list: &mut [u32],
-) -> usize
+)
     requires { ⌜ CanSend page (now file) n (now transfer) (now cheque) kept euros (now out) (now notes) (now list) ⌝ }
-    ensures { λ r. ⌜ FileSent page (now (file .entry)) (now (transfer .entry)) (now (cheque .entry)) (now (out .entry)) (now (notes .entry)) (now (list .entry)) r (now (out .exit)) (now (notes .exit)) (now (list .exit)) ⌝ }
+    ensures { λ _. ⌜ FileSent page (now (file .entry)) (now (transfer .entry)) (now (cheque .entry)) (now (out .entry)) (now (notes .entry)) (now (list .entry)) (now (out .exit)) (now (notes .exit)) (now (list .exit)) ⌝ }
 {
     let q = structure::slot(file, 0);
     place::q_record(page, q, &mut out[0..Q::LENGTH]);
@@ -140,5 +139,4 @@ pub fn file(
     let at = next.at;
     let end = at + Z::LENGTH;
     fresh_z(structure::slot(file, n + 1), kept, euros, &mut out[at..end]);
-    next.notes
 }

@@ -11,7 +11,7 @@ use Rattle.judge.specs.Records.{fileOf, Lengths}
 use Rattle.judge.specs.ByRecords.{file-length, slot-t}
 use Rattle.judge.specs.Apart.{slotsFrom}
 use Rattle.forwarding.specs.Between.{between}
-use Rattle.forwarding.specs.Sized.{zAt, Sized, Begins}
+use Rattle.forwarding.specs.Sized.{zAt, Sized}
 use Rattle.sorting.specs.Kept.{kept}
 use Rattle.sorting.specs.Lists.{front-kept, front-returned, kept-append}
 
@@ -53,9 +53,6 @@ module _ (rule : List ℕ → ℕ) (us : List (List ℕ)) (t : List ℕ) where
 module _ (q : List ℕ) (ks : List (List ℕ)) (z : List ℕ) (sized : Lengths q ks z) (few : length ks ≤ 9999) where
   pub records-sized : Sized (fileOf q ks z)
   records-sized = record { payments = length ks; long = file-length q ks z sized; most = few }
-
-  pub begins-at : (m : ℕ) → m ≤ length ks → Begins (fileOf q ks z) (placeOf m)
-  begins-at m l = record { low = omega arith; high = omega (arith, file-length q ks z sized); turn = omega arith }
 
   pub z-at : zAt (fileOf q ks z) ≡ placeOf (length ks)
   z-at = omega (arith, file-length q ks z sized)

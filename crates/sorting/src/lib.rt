@@ -149,7 +149,7 @@ fn going_on(kept: Figures, n: usize, euros: u64) -> Sorted
     }
 }
 
-// The first broken rule of Z, or 0: with n T records, whose T14a sum up to euros.
+// The first broken rule of Z, or 0: with n T records, whose T14a sum up to euros. No rule of Z reads the key.
 fn z_rule(page: u32, file: &[u8], n: usize, euros: u64, transfer: &[u8], cheque: &[u8]) -> usize
     requires { ⌜ (structureOf (now file) ≡ Fits n) × (euros ≡ euroSum (now file) n) ⌝ }
     ensures { λ r. ⌜ r ≡ ruleAt page (now (file .entry)) n (now (transfer .entry)) (now (cheque .entry)) (n + 1) ⌝ }
@@ -173,8 +173,8 @@ fn behind_q(page: u32, file: &[u8], n: usize, euros: u64, transfer: &[u8], chequ
         return refusal(broken, n + 1);
     }
     let kept = count_kept(page, file, n, transfer, cheque);
-    let some = kept.payments;
-    if some == 0 {
+    let payments = kept.payments;
+    if payments == 0 {
         return refusal(43, 0);
     }
     going_on(kept, n, euros)

@@ -1,7 +1,5 @@
 use borrow.Author.Needs.{needs}
-use native.Mathlib.Omega.{arith}
-use mathlib.Core.Path.{refl}
-use Rattle.prepare.specs.DefaultOutcome.{few, all-few, default-refused, default-short, whole-can, default-whole, can-send, default-sent}
+use Rattle.prepare.specs.DefaultOutcome.{few, default-refused, default-short, whole-can, default-whole, can-send, default-sent}
 use Rattle.prepare.proofs.prepare.Statement.{statement}
 use Rattle.prepare.proofs.prepare.Tie as tie
 
@@ -31,20 +29,15 @@ returns-3 c =
     let w = c .before .before .before .before .write .ensures in
     default-whole (a .page) (a .file .now) (a .transfer .now) (a .cheque .now) (a .out .now) (a .notes .now) (a .list .now) (c .before .before .before .before .before .before .before .before .before .before .before .before .before .sort .ensures) (c .before .before .before .before .before .before .before .before .before .before .before .before .if1 .left) (c .before .before .before .before .before .before .before .before .before .before .before .room-missing .ensures) (c .before .before .before .before .before .before .before .before .before .before .if2 .left) (c .before .before .before .before .before .before .before .if3 .taken) (w .0) (w .1)
 
-add-n : tie.Need-add-n
-add-n c =
-    let a = c .before .before .before .before .before .before .before .before .before .before .before .before .before .before .args in
-    omega (arith, all-few (a .page) (a .file .now) (a .transfer .now) (a .cheque .now) (a .out .now) (a .notes .now) (a .list .now) (c .before .before .before .before .before .before .before .sort .ensures) (c .before .before .before .before .before .before .if1 .left))
-
-file-requires : tie.Need-file-requires
-file-requires c κs =
-    let a = c .before .before .before .before .before .before .before .before .before .before .before .before .before .before .before .before .before .before .args in
-    can-send (a .page) (a .file .now) (a .transfer .now) (a .cheque .now) (a .out .now) (a .notes .now) (a .list .now) (c .before .before .before .before .before .before .before .before .before .before .before .sort .ensures) (c .before .before .before .before .before .before .before .before .before .before .if1 .left) (c .before .before .before .before .before .before .before .before .before .room-missing .ensures) (c .before .before .before .before .before .before .before .before .if2 .left) refl
+send-kept-requires : tie.Need-send-kept-requires
+send-kept-requires c κs =
+    let a = c .before .before .before .before .before .before .before .before .before .before .before .before .before .before .before .before .args in
+    can-send (a .page) (a .file .now) (a .transfer .now) (a .cheque .now) (a .out .now) (a .notes .now) (a .list .now) (c .before .before .before .before .before .before .before .before .before .sort .ensures) (c .before .before .before .before .before .before .before .before .if1 .left) (c .before .before .before .before .before .before .before .room-missing .ensures) (c .before .before .before .before .before .before .if2 .left)
 
 returns-4 : tie.Need-returns-4
 returns-4 c =
-    let a = c .before .before .before .before .before .before .before .before .before .before .before .before .before .before .before .before .before .before .before .before .before .before .before .before .before .args in
-    default-sent (a .page) (a .file .now) (a .transfer .now) (a .cheque .now) (a .out .now) (a .notes .now) (a .list .now) (c .before .before .before .before .before .before .before .before .before .before .before .before .before .before .before .before .before .before .sort .ensures) (c .before .before .before .before .before .before .before .before .before .before .before .before .before .before .before .before .before .if1 .left) (c .before .before .before .before .before .before .before .before .before .before .before .before .before .before .before .before .room-missing .ensures) (c .before .before .before .before .before .before .before .before .before .before .before .before .before .before .before .if2 .left) (c .before .before .before .before .before .before .file .ensures)
+    let a = c .before .before .before .before .before .before .before .before .before .before .before .before .before .before .before .before .before .before .before .before .before .before .before .args in
+    default-sent (a .page) (a .file .now) (a .transfer .now) (a .cheque .now) (a .out .now) (a .notes .now) (a .list .now) (c .before .before .before .before .before .before .before .before .before .before .before .before .before .before .before .before .sort .ensures) (c .before .before .before .before .before .before .before .before .before .before .before .before .before .before .before .if1 .left) (c .before .before .before .before .before .before .before .before .before .before .before .before .before .before .room-missing .ensures) (c .before .before .before .before .before .before .before .before .before .before .before .before .before .if2 .left) (c .before .before .before .before .before .before .send-kept .ensures)
 
 pub prepare-spec : {M : Type 1} → statement M
 prepare-spec =
@@ -59,8 +52,7 @@ prepare-spec =
     (λ c. search needs)
     (λ c. search needs)
     returns-3
-    add-n
-    file-requires
+    send-kept-requires
     (λ c. search needs)
     (λ c. search needs)
     (λ c. search needs)
