@@ -46,7 +46,7 @@ use Rattle.demands.proofs.Turns.{right-whole, walked-due}
 use Rattle.demands.proofs.Fitting.{due-here, right-here, says-is}
 use Rattle.demands.proofs.Named.{is-none}
 use Rattle.demands.proofs.Sorting.{succeeds, default-keeps}
-use Rattle.demands.proofs.Due.{real, at-q, at-z, at-last, by-rooms, shaped}
+use Rattle.demands.proofs.Due.{real, at-q, at-z, at-last, goes-by-rooms, shaped}
 
 -- a search that finds its first at place p
 finds-at : {A : Type 0} (P : ℕ → Bool) (f : ℕ → A) (z : A) (i e p : ℕ) → i ≤ p → p < e → P p ≡ true → NoneAt P i p → first P f z i e ≡ f p
@@ -194,7 +194,7 @@ module _ (page : ℕ) (file transfer cheque out notes list : List ℕ) (whole : 
     unfolding sendOf
     sent-alike =
         let all : ltb (length list) (length (namedIn page file transfer cheque)) ≡ false = le-ltb (length list) (length (namedIn page file transfer cheque)) (omega (arith, ap length nobody)) in
-        ap asStrict (by-rooms page file transfer cheque out notes list there (g .answer))
+        ap asStrict (goes-by-rooms page file transfer cheque out notes list there (g .answer))
         ∙ ap (λ (t : Bool). asStrict (cond (ltb (length out) (length (keptFile page file transfer cheque))) (unsorted 60 0) (cond (ltb (length notes) (length (notesOf page (keptFile page file transfer cheque)))) (unsorted 61 0) (cond t (unsorted 63 0) (goesOn page file transfer cheque))))) all
         ∙ go (ltb (length out) (length (keptFile page file transfer cheque))) (ltb (length notes) (length (notesOf page (keptFile page file transfer cheque))))
         ∙ ap (λ (f : List ℕ). cond (ltb (length out) (length f)) (notPrepared 60 0) (cond (ltb (length notes) (length (notesOf page f))) (notPrepared 61 0) (done (length (notesOf page f))))) same

@@ -29,11 +29,11 @@ use Rattle.sorting.specs.Frame.{records-count}
 use Rattle.sorting.specs.Whole.{slot-is}
 use Rattle.sorting.specs.Outcome.{finds-none}
 use Rattle.sorting.specs.declared.Sorted.{Sorted}
-use Rattle.prepare.specs.Prepared.{notPrepared, done, sendOf}
 use Rattle.prepare.specs.Default.{defaultBy, defaultOf}
 use Rattle.demands.specs.Sorting.{BrokenFirst, NoneOf, BreaksNone, qSays, zSays, FirstSpoiled, AllDigits, Proper, Sorts, Goes, DueAnswer, DefaultRefuses}
 use Rattle.demands.proofs.Alone.{one-number}
 use Rattle.demands.proofs.Pages.{is-page}
+use Rattle.demands.proofs.Rooms.{inRooms, rooms-of}
 use Rattle.demands.proofs.Named.{found-first, first-found, none-found, found-none, breaks-none, is-none}
 
 module _ (page : ℕ) (file transfer cheque : List ℕ) (n : ℕ) where
@@ -195,30 +195,16 @@ module _ (page : ℕ) (file transfer cheque out notes list : List ℕ) (there : 
   shaped s e = sym (on (unsorted 7 0) there refl) ∙ ap (λ (s : Shape). sortBy s page file transfer cheque) e
 
   -- the rooms of a file that goes on
-  pub by-rooms : sortOf page file transfer cheque ≡ goesOn page file transfer cheque
+  pub goes-by-rooms : sortOf page file transfer cheque ≡ goesOn page file transfer cheque
       → answered
-      ≡ cond (ltb (length out) (length K)) (unsorted 60 0)
-      (cond (ltb (length notes) (length (notesOf page K))) (unsorted 61 0)
-      (cond (ltb (length list) (length (namedIn page file transfer cheque))) (unsorted 63 0) (goesOn page file transfer cheque)))
-  unfolding defaultOf sendOf
-  by-rooms e =
+      ≡ inRooms (ltb (length out) (length K)) (ltb (length notes) (length (notesOf page K))) (ltb (length list) (length (namedIn page file transfer cheque)))
+      (goesOn page file transfer cheque)
+  unfolding defaultOf
+  goes-by-rooms e =
       ap (λ (s : Sorted). defaultBy s page K out notes list) e
-      ∙ ap (λ (m : ℕ). told (ltb (length out) (length K)) (ltb (length notes) (length (notesOf page K))) (ltb (length list) m)) (sym (named-count (ruleIn page file transfer cheque) 1 (tRecords file)))
-      ∙ go (ltb (length out) (length K)) (ltb (length notes) (length (notesOf page K))) (ltb (length list) (length (namedIn page file transfer cheque)))
-    where
-      told : Bool → Bool → Bool → Sorted
-      told a b c =
-          cond (eqb (cond a (notPrepared 60 0) (cond b (notPrepared 61 0) (done (length (notesOf page K)))) .number) 0) (cond c (unsorted 63 0) (goesOn page file transfer cheque))
-          (unsorted (cond a (notPrepared 60 0) (cond b (notPrepared 61 0) (done (length (notesOf page K)))) .number) (cond a (notPrepared 60 0) (cond b (notPrepared 61 0) (done (length (notesOf page K)))) .rec))
-
-      go : (a b c : Bool)
-          → cond (eqb (cond a (notPrepared 60 0) (cond b (notPrepared 61 0) (done (length (notesOf page K)))) .number) 0) (cond c (unsorted 63 0) (goesOn page file transfer cheque))
-          (unsorted (cond a (notPrepared 60 0) (cond b (notPrepared 61 0) (done (length (notesOf page K)))) .number) (cond a (notPrepared 60 0) (cond b (notPrepared 61 0) (done (length (notesOf page K)))) .rec))
-          ≡ cond a (unsorted 60 0) (cond b (unsorted 61 0) (cond c (unsorted 63 0) (goesOn page file transfer cheque)))
-      go true b c = refl
-      go false true c = refl
-      go false false true = refl
-      go false false false = refl
+      ∙ rooms-of (goesOn page file transfer cheque) page K out notes list
+      ∙ ap (λ (m : ℕ). inRooms (ltb (length out) (length K)) (ltb (length notes) (length (notesOf page K))) (ltb (length list) m) (goesOn page file transfer cheque))
+      (sym (named-count (ruleIn page file transfer cheque) 1 (tRecords file)))
 
   -- a file with n T records, by its tests
   module _ (n : ℕ) (e : structureOf file ≡ Fits n) where
@@ -265,10 +251,8 @@ module _ (page : ℕ) (file transfer cheque out notes list : List ℕ) (there : 
   -- the tests of a file that goes on, and what is then answered
   room-answers : (a b c : Bool) → ltb (length out) (length K) ≡ a → ltb (length notes) (length (notesOf page K)) ≡ b
       → ltb (length list) (length (namedIn page file transfer cheque)) ≡ c → sortOf page file transfer cheque ≡ goesOn page file transfer cheque
-      → answered ≡ cond a (unsorted 60 0) (cond b (unsorted 61 0) (cond c (unsorted 63 0) (goesOn page file transfer cheque)))
-  room-answers a b c p q r e =
-      by-rooms e
-      ∙ (λ i. cond (p i) (unsorted 60 0) (cond (q i) (unsorted 61 0) (cond (r i) (unsorted 63 0) (goesOn page file transfer cheque))))
+      → answered ≡ inRooms a b c (goesOn page file transfer cheque)
+  room-answers a b c p q r e = goes-by-rooms e ∙ (λ i. inRooms (p i) (q i) (r i) (goesOn page file transfer cheque))
 
   -- what is due is answered
   answers : (m k : ℕ) → DueHere m k → Answers m k

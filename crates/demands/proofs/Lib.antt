@@ -18,6 +18,7 @@ pub mod There
 pub mod Show
 pub mod Settled
 pub mod Named
+pub mod Rooms
 pub mod Sorting
 pub mod Due
 pub mod AsStrict

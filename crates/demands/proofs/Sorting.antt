@@ -1,6 +1,6 @@
 -- What the default way of prepare leaves and answers, by what sorting means (sorting/specs/Goes).
 use Prim.Native.Nat.{ℕ, zero, suc, _+_, _%_, _/_, _≤_, _<_}
-use mathlib.Core.Path.{_≡_, refl, sym, ap, subst, _∙_}
+use mathlib.Core.Path.{_≡_, refl, sym, ap, ap₂, subst, _∙_}
 use mathlib.Core.Bool.{Bool, true, false, cond}
 use mathlib.Core.List.{List, [], _∷_, _++_}
 use mathlib.Core.Logic.{_⊎_, inl, inr}
@@ -44,6 +44,14 @@ use Rattle.demands.proofs.Demand2.{judged}
 use Rattle.demands.proofs.Demand3.{turns-back}
 use Rattle.demands.proofs.Forwarding.{behind, forwards}
 use Rattle.demands.proofs.Named.{names}
+use Rattle.demands.proofs.Rooms.{inRooms, by-rooms}
+
+-- a file that is sent where there is room for it and its notes
+sent-in-full : (page : ℕ) (file out notes : List ℕ) → ltb (length out) (length file) ≡ false → ltb (length notes) (length (notesOf page file)) ≡ false
+    → sendOf page file out notes ≡ done (length (notesOf page file))
+unfolding sendOf
+sent-in-full page file out notes q r =
+    ap₂ (λ (a b : Bool). cond a (notPrepared 60 0) (cond b (notPrepared 61 0) (done (length (notesOf page file))))) q r
 
 -- the default way answers 0
 module _ (page : ℕ) (file transfer cheque out notes list : List ℕ) where
@@ -57,18 +65,13 @@ module _ (page : ℕ) (file transfer cheque out notes list : List ℕ) where
     pub is : defaultOf page file transfer cheque out notes list ≡ sortOf page file transfer cheque
 
   pub succeeds : defaultOf page file transfer cheque out notes list .number ≡ 0 → Success
-  unfolding defaultOf sendOf
   succeeds z =
       go (eqb (sortOf page file transfer cheque .number) 0) (ltb (length out) (length K)) (ltb (length notes) (length (notesOf page K)))
-      (ltb (length list) (sortOf page file transfer cheque .payments .returned)) refl refl refl refl refl z
+      (ltb (length list) (sortOf page file transfer cheque .payments .returned)) refl refl refl refl (by-rooms page file transfer cheque out notes list) z
     where
       go : (a b c d : Bool) → eqb (sortOf page file transfer cheque .number) 0 ≡ a → ltb (length out) (length K) ≡ b
           → ltb (length notes) (length (notesOf page K)) ≡ c → ltb (length list) (sortOf page file transfer cheque .payments .returned) ≡ d
-          → defaultOf page file transfer cheque out notes list
-          ≡ cond a
-          (cond (eqb (cond b (notPrepared 60 0) (cond c (notPrepared 61 0) (done (length (notesOf page K)))) .number) 0) (cond d (unsorted 63 0) (sortOf page file transfer cheque))
-          (unsorted (cond b (notPrepared 60 0) (cond c (notPrepared 61 0) (done (length (notesOf page K)))) .number) (cond b (notPrepared 60 0) (cond c (notPrepared 61 0) (done (length (notesOf page K)))) .rec)))
-          (sortOf page file transfer cheque)
+          → defaultOf page file transfer cheque out notes list ≡ cond a (inRooms b c d (sortOf page file transfer cheque)) (sortOf page file transfer cheque)
           → defaultOf page file transfer cheque out notes list .number ≡ 0 → Success
       go false b c d p q r t is z = absurd (eqb-false _ 0 p (sym (ap (λ (s : Sorted). s .number) is) ∙ z))
       go true true c d p q r t is z = absurd (omega (arith, ap (λ (s : Sorted). s .number) is))
@@ -77,9 +80,7 @@ module _ (page : ℕ) (file transfer cheque out notes list : List ℕ) where
       go true false false false p q r t is z =
           record {
             sorted = eqb-true _ 0 p;
-            sent =
-                ap (λ (b : Bool). cond b (notPrepared 60 0) (cond (ltb (length notes) (length (notesOf page K))) (notPrepared 61 0) (done (length (notesOf page K))))) q
-                ∙ ap (λ (b : Bool). cond b (notPrepared 61 0) (done (length (notesOf page K)))) r;
+            sent = sent-in-full page K out notes q r;
             room = ltb-false _ _ t;
             is = is;
           }
@@ -304,22 +305,18 @@ module _ (page : ℕ) (file transfer cheque : List ℕ) where
 
   module _ (out notes list : List ℕ) where
     default-plain : isPage page ≡ true → Plain (defaultOf page file transfer cheque out notes list)
-    unfolding defaultOf sendOf
     default-plain there =
         let s = sortOf page file transfer cheque in
         let k = keptFile page file transfer cheque in
-        either Plain (eqb (s .number) 0) _ s
-        (sent (ltb (length out) (length k)) (ltb (length notes) (length (notesOf page k))) (ltb (length list) (s .payments .returned))) (sort-plain there)
+        subst Plain (sym (by-rooms page file transfer cheque out notes list))
+        (either Plain (eqb (s .number) 0) _ s
+        (rooms (ltb (length out) (length k)) (ltb (length notes) (length (notesOf page k))) (ltb (length list) (s .payments .returned)) (sort-plain there)) (sort-plain there))
       where
-        sent : (a b c : Bool)
-            → Plain (cond (eqb (cond a (notPrepared 60 0) (cond b (notPrepared 61 0) (done (length (notesOf page (keptFile page file transfer cheque))))) .number) 0)
-            (cond c (unsorted 63 0) (sortOf page file transfer cheque))
-            (unsorted (cond a (notPrepared 60 0) (cond b (notPrepared 61 0) (done (length (notesOf page (keptFile page file transfer cheque))))) .number)
-            (cond a (notPrepared 60 0) (cond b (notPrepared 61 0) (done (length (notesOf page (keptFile page file transfer cheque))))) .rec)))
-        sent true b c = inr (inr (inr (inl refl)), refl)
-        sent false true c = inr (inr (inr (inr (inl refl))), refl)
-        sent false false true = inr (inr (inr (inr (inr refl))), refl)
-        sent false false false = sort-plain there
+        rooms : (a b c : Bool) → Plain (sortOf page file transfer cheque) → Plain (inRooms a b c (sortOf page file transfer cheque))
+        rooms true b c p = inr (inr (inr (inl refl)), refl)
+        rooms false true c p = inr (inr (inr (inr (inl refl))), refl)
+        rooms false false true p = inr (inr (inr (inr (inr refl))), refl)
+        rooms false false false p = p
 
     default-7 : isPage page ≡ false → defaultOf page file transfer cheque out notes list ≡ unsorted 7 0
     unfolding defaultOf sortOf
