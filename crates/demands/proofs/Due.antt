@@ -115,7 +115,7 @@ module _ (page : ℕ) (file transfer cheque : List ℕ) (n : ℕ) where
           ∙ one-number (p .place) v (λ l. false≢true (sym (not-true _ (p .holds)) ∙ s .none-before (p .place) (p .above) l))
           (λ l. false≢true (sym (p .before v (s .low) l) ∙ is-bad))
 
-  amounts-none : noAmount file n ≡ 0 → AllDigits page file transfer cheque n
+  pub amounts-none : noAmount file n ≡ 0 → AllDigits page file transfer cheque n
   unfolding noAmount
   amounts-none e k a b = by (noAmount file n) e (means bad (λ (k : ℕ). k) 0 1 (n + 1))
     where

@@ -14,7 +14,7 @@ use Rattle.structure.specs.Slots.{slotAt}
 use Rattle.structure.specs.Walk.{structureOf}
 use Rattle.structure.specs.declared.Shape.the-variants.{Fits}
 use Rattle.judge.specs.Apart.{slotsFrom, slots-count}
-use Rattle.sorting.specs.Kept.{firstOf, named, ruleIn, namedIn}
+use Rattle.sorting.specs.Kept.{firstOf, returned, named, ruleIn, namedIn}
 use Rattle.sorting.specs.Sound.{first-below}
 use Rattle.sorting.specs.Frame.{records-are}
 use Rattle.sorting.specs.Outcome.{finds-none}
@@ -23,31 +23,35 @@ use Rattle.demands.proofs.Alone.{one-number, same-rising}
 
 -- of any list of records: rule tells of each its first broken rule, or 0
 module _ (rule : List ℕ → ℕ) where
-  pub record NamedAt (k : ℕ) (ts : List (List ℕ)) (v : ℕ) : Type 0 where
+  -- u is a record that comes back, and v its name
+  pub record NamedAt (k : ℕ) (ts : List (List ℕ)) (u : List ℕ) (v : ℕ) : Type 0 where
     pub place : ℕ
     pub below : place < length ts
     pub broken : rule (getD ts place []) ≡ 0 → ⊥
+    pub comes-back : u ≡ getD ts place []
     pub is : v ≡ (k + place) * 100 + rule (getD ts place [])
 
-  later : (k : ℕ) (t : List ℕ) (ts : List (List ℕ)) {v : ℕ} → NamedAt (suc k) ts v → NamedAt k (t ∷ ts) v
+  later : (k : ℕ) (t : List ℕ) (ts : List (List ℕ)) {u : List ℕ} {v : ℕ} → NamedAt (suc k) ts u v → NamedAt k (t ∷ ts) u v
   later k t ts n =
       record {
         place = suc (n .place);
         below = omega (arith, n .below);
         broken = n .broken;
+        comes-back = n .comes-back;
         is = n .is ∙ ap (λ (j : ℕ). j * 100 + rule (getD ts (n .place) [])) (omega arith);
       }
 
-  pub named-only : (k : ℕ) (ts : List (List ℕ)) (i : ℕ) → i < length (named rule k ts) → NamedAt k ts (getD (named rule k ts) i 0)
+  pub named-only : (k : ℕ) (ts : List (List ℕ)) (i : ℕ) → i < length (named rule k ts)
+      → NamedAt k ts (getD (returned rule ts) i []) (getD (named rule k ts) i 0)
   named-only k [] i l = absurd (omega arith)
   named-only k (t ∷ ts) i l = go (eqb (rule t) 0) refl i l (named-only (suc k) ts)
     where
       go : (x : Bool) → eqb (rule t) 0 ≡ x → (i : ℕ) → i < length (cond x (named rule (suc k) ts) ((k * 100 + rule t) ∷ named rule (suc k) ts))
-          → ((i : ℕ) → i < length (named rule (suc k) ts) → NamedAt (suc k) ts (getD (named rule (suc k) ts) i 0))
-          → NamedAt k (t ∷ ts) (getD (cond x (named rule (suc k) ts) ((k * 100 + rule t) ∷ named rule (suc k) ts)) i 0)
+          → ((i : ℕ) → i < length (named rule (suc k) ts) → NamedAt (suc k) ts (getD (returned rule ts) i []) (getD (named rule (suc k) ts) i 0))
+          → NamedAt k (t ∷ ts) (getD (cond x (returned rule ts) (t ∷ returned rule ts)) i []) (getD (cond x (named rule (suc k) ts) ((k * 100 + rule t) ∷ named rule (suc k) ts)) i 0)
       go true e i l h = later k t ts (h i l)
       go false e zero l h =
-          record { place = 0; below = omega arith; broken = eqb-false (rule t) 0 e; is = ap (λ (j : ℕ). j * 100 + rule t) (omega arith) }
+          record { place = 0; below = omega arith; broken = eqb-false (rule t) 0 e; comes-back = refl; is = ap (λ (j : ℕ). j * 100 + rule t) (omega arith) }
       go false e (suc i) l h = later k t ts (h i (omega arith))
 
   pub named-every : (k : ℕ) (ts : List (List ℕ)) (i : ℕ) → i < length ts → (rule (getD ts i []) ≡ 0 → ⊥)
@@ -158,7 +162,7 @@ module _ (page : ℕ) (file transfer cheque : List ℕ) (k : ℕ) where
   unfolding firstOf
   is-none h = none-found (tSays page file transfer cheque k) (tSays page file transfer cheque k) 20 35 (λ r a b. refl) (omega arith) h
 
-slots-at : (file : List ℕ) (k m i : ℕ) → i < m → getD (slotsFrom file k m) i [] ≡ slotAt file (k + i)
+pub slots-at : (file : List ℕ) (k m i : ℕ) → i < m → getD (slotsFrom file k m) i [] ≡ slotAt file (k + i)
 slots-at file k zero i l = absurd (omega arith)
 slots-at file k (suc m) zero l = ap (slotAt file) (omega arith)
 slots-at file k (suc m) (suc i) l = slots-at file (suc k) m i (omega arith) ∙ ap (slotAt file) (omega arith)

@@ -247,8 +247,20 @@ sends-the-good-ones page file transfer cheque out notes list out' notes' list' a
 abbrev Number : ℕ → Type 0
 Number n = RefusingRule n ⊎ ((n ≡ 43) ⊎ ((n ≡ 60) ⊎ ((n ≡ 61) ⊎ (n ≡ 63))))
 
+abbrev PlainBy : (ℕ → Type 0) → Sorted → Type 0
+PlainBy N s = (s .number ≡ 0) ⊎ (N (s .number) × (s ≡ unsorted (s .number) (s .rec)))
+
 abbrev Plain : Sorted → Type 0
-Plain s = (s .number ≡ 0) ⊎ (Number (s .number) × (s ≡ unsorted (s .number) (s .rec)))
+Plain s = PlainBy Number s
+
+-- of sorting, fewer
+abbrev pub PlainSort : Sorted → Type 0
+PlainSort s = PlainBy (λ (n : ℕ). RefusingRule n ⊎ (n ≡ 43)) s
+
+wider : (s : Sorted) → PlainSort s → Plain s
+wider s (inl z) = inl z
+wider s (inr (inl r, q)) = inr (inl r, q)
+wider s (inr (inr e, q)) = inr (inr (inl e), q)
 
 rule-range : (F : ℕ → ℕ → ℕ) (lo hi : ℕ → ℕ) (k : ℕ) → (firstRule F lo hi k ≡ 0) ⊎ ((lo k ≤ firstRule F lo hi k) × (firstRule F lo hi k < hi k))
 rule-range F lo hi k = go (firstRule F lo hi k) (means (breaks F k) (λ (r : ℕ). r) 0 (lo k) (hi k))
@@ -266,11 +278,11 @@ walk-number file m k (inr t) =
     (omega (arith, r .0), r .1)
 
 module _ (page : ℕ) (file transfer cheque : List ℕ) where
-  q-number : (n v : ℕ) → (v ≡ 0) ⊎ ((10 ≤ v) × (v < 17)) → Plain (unsorted v 0)
+  q-number : (n v : ℕ) → (v ≡ 0) ⊎ ((10 ≤ v) × (v < 17)) → PlainSort (unsorted v 0)
   q-number n v (inl e) = inl e
   q-number n v (inr p) = inr (inl (inr (inl (p .0, omega (arith, p .1)))), refl)
 
-  z-number : (k v : ℕ) → (v ≡ 0) ⊎ ((40 ≤ v) × (v < 43)) → Plain (unsorted v k)
+  z-number : (k v : ℕ) → (v ≡ 0) ⊎ ((40 ≤ v) × (v < 43)) → PlainSort (unsorted v k)
   z-number k v (inl e) = inl e
   z-number k v (inr p) = inr (inl (inr (inr (inr (p .0, omega (arith, p .1))))), refl)
 
@@ -284,22 +296,22 @@ module _ (page : ℕ) (file transfer cheque : List ℕ) where
       go p q (inl e) = inl e
       go p q (inr w) = inr (rw (p, q) at (w .0), rw (p, q) at (w .1))
 
-  behind-plain : (n : ℕ) → Plain (behindQ page file n transfer cheque)
+  behind-plain : (n : ℕ) → PlainSort (behindQ page file n transfer cheque)
   unfolding behindQ
   behind-plain n =
-      either Plain (eqb (noAmount file n) 0) _ (unsorted 33 (noAmount file n))
-      (either Plain (eqb (ruleAt page file n transfer cheque (n + 1)) 0) _ (unsorted (ruleAt page file n transfer cheque (n + 1)) (n + 1))
-      (either Plain (eqb (length (keptIn page file transfer cheque)) 0) (unsorted 43 0) (goesOn page file transfer cheque) (inr (inr (inl refl), refl)) (inl refl))
+      either PlainSort (eqb (noAmount file n) 0) _ (unsorted 33 (noAmount file n))
+      (either PlainSort (eqb (ruleAt page file n transfer cheque (n + 1)) 0) _ (unsorted (ruleAt page file n transfer cheque (n + 1)) (n + 1))
+      (either PlainSort (eqb (length (keptIn page file transfer cheque)) 0) (unsorted 43 0) (goesOn page file transfer cheque) (inr (inr refl, refl)) (inl refl))
       (z-number (n + 1) (ruleAt page file n transfer cheque (n + 1)) (z-range n)))
       (inr (inl (inr (inr (inl refl))), refl))
 
-  sort-plain : isPage page ≡ true → Plain (sortOf page file transfer cheque)
+  pub sort-plain : isPage page ≡ true → PlainSort (sortOf page file transfer cheque)
   unfolding sortOf
-  sort-plain there = subst Plain (on (unsorted 7 0) there refl) (shape (structureOf file) refl)
+  sort-plain there = subst PlainSort (on (unsorted 7 0) there refl) (shape (structureOf file) refl)
     where
-      shape : (s : Shape) → structureOf file ≡ s → Plain (sortBy s page file transfer cheque)
+      shape : (s : Shape) → structureOf file ≡ s → PlainSort (sortBy s page file transfer cheque)
       shape (Fits n) e =
-          either Plain (eqb (ruleAt page file n transfer cheque 0) 0) (behindQ page file n transfer cheque) (unsorted (ruleAt page file n transfer cheque 0) 0) (behind-plain n)
+          either PlainSort (eqb (ruleAt page file n transfer cheque 0) 0) (behindQ page file n transfer cheque) (unsorted (ruleAt page file n transfer cheque 0) 0) (behind-plain n)
           (q-number n (ruleAt page file n transfer cheque 0) (rule-range (faultOf page file n (euroSum file n) transfer cheque) (ruleFrom n) (ruleEnd n) 0))
       shape (Refused number rec) e = inr (inl (inl (walk-number file number rec (rw e at (tells file)))), refl)
 
@@ -310,7 +322,7 @@ module _ (page : ℕ) (file transfer cheque : List ℕ) where
         let k = keptFile page file transfer cheque in
         subst Plain (sym (by-rooms page file transfer cheque out notes list))
         (either Plain (eqb (s .number) 0) _ s
-        (rooms (ltb (length out) (length k)) (ltb (length notes) (length (notesOf page k))) (ltb (length list) (s .payments .returned)) (sort-plain there)) (sort-plain there))
+        (rooms (ltb (length out) (length k)) (ltb (length notes) (length (notesOf page k))) (ltb (length list) (s .payments .returned)) (wider s (sort-plain there))) (wider s (sort-plain there)))
       where
         rooms : (a b c : Bool) → Plain (sortOf page file transfer cheque) → Plain (inRooms a b c (sortOf page file transfer cheque))
         rooms true b c p = inr (inr (inr (inl refl)), refl)

@@ -3,7 +3,8 @@
 -- (RULES 4, 6, 8) and document 02, A2: 7, A3: "6 is withdrawn"; show answers a part. Any page number may be handed in too, and
 -- any reader; which numbers a reader answers is said of one that comes from a new one by the calls (Reading). And what is left
 -- of lent memory: judge, reader, show and the program are lent nothing for writing; prepare, the strict way, is lent output
--- and note places, restore an output. Of prepare's default way, which is lent a list too, see Sorting.
+-- and note places, restore an output. Of prepare's default way, which is lent a list too, see Sorting, and of M8 records
+-- filing/Filing.
 use Prim.Native.Nat.{ℕ, _≤_}
 use mathlib.Core.Path.{_≡_}
 use mathlib.Core.List.{List}

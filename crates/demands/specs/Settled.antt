@@ -2,7 +2,8 @@
 -- leaves one possible answer and one possible content of all memory it was lent. That any two permitted outcomes
 -- coincide is proved". Over the predicates that the calls' `ensures` state, and on any page, also one that does not exist.
 -- `desk_judge_full`, `desk_prepare_strict`, `desk_restore` and the three calls of a reader promise the same as the calls below
--- them. Of prepare it is the strict way here; of the default way, and so of `desk_prepare`, see Sorting.
+-- them. Of prepare it is the strict way here; of the default way, and so of `desk_prepare`, see Sorting, and of M8 records, and
+-- so of `desk_m8`, filing/Filing.
 -- `ToldAs` is what the program's steps come to (Program `SaysOfInput`).
 use Prim.Native.Nat.{ℕ}
 use mathlib.Core.Path.{_≡_}

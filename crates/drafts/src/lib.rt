@@ -16,6 +16,21 @@ pub fn say_answer(edge: &[u8], number: usize, rec: usize) {
     say_number(b" at ", rec as u64);
 }
 
+// A line: the edge, its number and record.
+pub fn tell(edge: &[u8], number: usize, rec: usize) {
+    say_answer(edge, number, rec);
+    say(b"\n");
+}
+
+pub fn tell_whether(edge: &[u8], holds: bool) {
+    say(edge);
+    if holds {
+        say(b": yes\n");
+        return;
+    }
+    say(b": no\n");
+}
+
 // Writes a byte where there is room for it; answers the place behind it.
 fn set(room: &mut [u8], at: usize, b: u8) -> usize {
     if at < room.len() {

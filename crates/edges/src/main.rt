@@ -1,13 +1,14 @@
-// Both sides of each edge of document 01, where each rule points (document 02, A1), the code pages (A2), and the default
-// way of prepare (A5), run: a line for each. Where no page is told it is page 0, and page 1 in the program. Files in cuts
-// (A3) are in the crate cuts.
+// Both sides of each edge of document 01, where each rule points (document 02, A1), and the code pages (A2), run: a line
+// for each. Where no page is told it is page 0, and page 1 in the program. Files in cuts (A3) are in the crate cuts, and
+// payments that come back (A5, A6) in the crate returns.
 use drafts::say;
 use drafts::say_answer;
 use drafts::say_number;
+use drafts::tell;
+use drafts::tell_whether;
 
 mod pages;
 mod places;
-mod returns;
 
 const LIST: [u8; 2] = *b"US";
 
@@ -18,26 +19,11 @@ const NOTE_PATTERN: u32 = 4022250974;
 // The note of document 01's example. The byte 5 higher is the plus sign, which the table keeps.
 const NOTE: u32 = 316198;
 
-// A line: the edge, its number and record.
-fn tell(edge: &[u8], number: usize, rec: usize) {
-    say_answer(edge, number, rec);
-    say(b"\n");
-}
-
-// The same with the place in the record, which the judge tells.
+// A line: the edge, its number and record, and the place in the record, which the judge tells.
 fn tell_place(edge: &[u8], number: usize, rec: usize, at: usize) {
     say_answer(edge, number, rec);
     say_number(b", place ", at as u64);
     say(b"\n");
-}
-
-fn tell_whether(edge: &[u8], holds: bool) {
-    say(edge);
-    if holds {
-        say(b": yes\n");
-        return;
-    }
-    say(b": no\n");
 }
 
 fn judge_on(page: u32, edge: &[u8], file: &[u8], taken: &[u64]) {
@@ -232,5 +218,4 @@ fn main() {
     restore_edges();
     places::edges();
     pages::edges();
-    returns::edges();
 }

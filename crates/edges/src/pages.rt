@@ -114,8 +114,8 @@ fn prepare_on(page: u32, edge: &[u8], file: &[u8], out: &mut [u8], pattern: &[u8
 fn restore_on(page: u32, edge: &[u8], file: &[u8], out: &mut [u8], pattern: &[u8]) {
     let r = restore::restore(page, file, &[460838], &crate::LIST, &crate::LIST, out);
     drafts::say_number(b"page ", page as u64);
-    crate::tell(edge, r.number, r.rec);
-    crate::tell_whether(b"  output untouched", fields::same(out, pattern));
+    drafts::tell(edge, r.number, r.rec);
+    drafts::tell_whether(b"  output untouched", fields::same(out, pattern));
 }
 
 // A page that does not exist: 7, before 50 and 2, before 60 and before 70.

@@ -1,5 +1,6 @@
 // The calls for hosts in C. Lent slices pass as pointer and count.
 use judge::Verdict;
+use m8::Filed;
 use prepare::Prepared;
 use reader::Read;
 use reader::Reader;
@@ -10,6 +11,7 @@ ghost use Rattle.reader.specs.State.{NewAs, FedAs, EndedAs};
 ghost use Rattle.prepare.specs.Prepared.{PreparedAs};
 ghost use Rattle.prepare.specs.Default.{DefaultAs};
 ghost use Rattle.restore.specs.Restored.{RestoredAs};
+ghost use Rattle.m8.specs.Filed.{FiledAs};
 ghost use Rattle.host.specs.Answers.{CodedAs, PlacedAs};
 
 // The judge of document 01 for payroll hosts: page 0, no taken numbers, record × 100 + number.
@@ -89,6 +91,20 @@ pub extern "C" fn desk_prepare_strict(
     ensures { λ r. ⌜ PreparedAs page (now (file .entry)) (now (transfer .entry)) (now (cheque .entry)) (now (out .entry)) (now (notes .entry)) r (now (out .exit)) (now (notes .exit)) ⌝ }
 {
     prepare::strict(page, file, transfer, cheque, out, notes)
+}
+
+#[no_mangle]
+pub extern "C" fn desk_m8(
+    page: u32,
+    file: &[u8],
+    transfer: &[u8],
+    cheque: &[u8],
+    codes: &[u8],
+    out: &mut [u8],
+) -> Filed
+    ensures { λ r. ⌜ FiledAs page (now (file .entry)) (now (transfer .entry)) (now (cheque .entry)) (now (codes .entry)) (now (out .entry)) r (now (out .exit)) ⌝ }
+{
+    m8::records(page, file, transfer, cheque, codes, out)
 }
 
 #[no_mangle]

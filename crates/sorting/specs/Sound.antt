@@ -72,6 +72,14 @@ module _ (page : ℕ) (transfer cheque key t : List ℕ) where
       by v (inl p) = omega (arith, p .0)
       by v (inr p) = omega (arith, p .answer, p .below)
 
+  pub first-above : (firstOf page transfer cheque key t ≡ 0 → ⊥) → 20 ≤ firstOf page transfer cheque key t
+  unfolding firstOf breaks
+  first-above f = by (firstOf page transfer cheque key t) (means breaks (λ (r : ℕ). r) 0 20 36) f
+    where
+      by : (v : ℕ) → Means breaks (λ (r : ℕ). r) 0 20 36 v → (v ≡ 0 → ⊥) → 20 ≤ v
+      by v (inl p) f = absurd (f (p .0))
+      by v (inr p) f = omega (arith, p .answer, p .above)
+
 -- rule 21 reads T3 and T4b of the key, and no other rule reads the key
 key-alike : (page : ℕ) (transfer cheque key key' t : List ℕ) (rule : ℕ) → keyT3 key ≡ keyT3 key' → keyT4b key ≡ keyT4b key'
     → tFault page transfer cheque key t rule ≡ tFault page transfer cheque key' t rule

@@ -1,62 +1,14 @@
 // The default way of prepare (document 02, A5): what goes on, what comes back, what refuses the file, and in which turn.
-// Most files have three payments, of 100,50, 20,25 and 3,00, with one, two and one characters that the table changes.
+use crate::draft::*;
 use drafts::payment;
 use drafts::put;
 use drafts::say;
 use drafts::say_number;
+use drafts::tell;
+use drafts::tell_whether;
 use sorting::Sorted;
 
-// Where their records begin.
-const FIRST: usize = 256;
-
-const SECOND: usize = 1024;
-
-const THIRD: usize = 1792;
-
-const Z: usize = 2560;
-
-// Where fields begin in their record.
-const Q9: usize = 177;
-
-const T3: usize = 5;
-
-const T4A: usize = 13;
-
-const T4B: usize = 16;
-
-const T11: usize = 350;
-
-const T13: usize = 455;
-
-const T14A: usize = 458;
-
-const T14B: usize = 472;
-
-const T26: usize = 715;
-
-const Z3: usize = 5;
-
-const Z4: usize = 20;
-
-const Z5: usize = 35;
-
-fn three() -> [u8; 2816] {
-    let mut file = [32u8; 2816];
-    let mut at = put(&mut file, 0, &drafts::q());
-    at = put(&mut file, at, &payment(b"M&M STUDIO", 100, 50));
-    at = put(&mut file, at, &payment(b"A&B&C", 20, 25));
-    at = put(&mut file, at, &payment(b"M&M STUDIO", 3, 0));
-    put(&mut file, at, &drafts::z(123, 3));
-    file
-}
-
-// A file with a text written over it.
-fn with(file: &[u8; 2816], at: usize, text: &[u8]) -> [u8; 2816] {
-    let mut changed = [32u8; 2816];
-    put(&mut changed, 0, file);
-    put(&mut changed, at, text);
-    changed
-}
+const NOTE_PATTERN: u32 = 4022250974;
 
 // Room as it has to be left: a file of one payment or two, and the pattern behind it.
 fn left(first: &[u8], second: &[u8], euros: u64, payments: u64) -> [u8; 2816] {
@@ -74,7 +26,7 @@ fn first_and_third(payee: &[u8]) -> [u8; 2816] {
 }
 
 fn say_place(number: u32) {
-    if number == crate::NOTE_PATTERN {
+    if number == NOTE_PATTERN {
         say(b" -");
         return;
     }
@@ -122,14 +74,7 @@ fn prepare(
     let p = prepare::prepare(page, file, &crate::LIST, &crate::LIST, out, notes, list);
     let number = p.number;
     tell_sorted(edge, p, notes, list);
-    if number == 0 {
-        crate::tell_whether(
-            b"  output as due, and untouched behind",
-            fields::same(out, due),
-        );
-        return;
-    }
-    crate::tell_whether(b"  output untouched", fields::same(out, due));
+    crate::tell_output(number == 0, fields::same(out, due));
 }
 
 // With ample room. Where nothing is sent, its pattern is due.
@@ -140,13 +85,18 @@ fn sent(edge: &[u8], file: &[u8], due: &[u8; 2816]) {
         file,
         &mut [crate::PATTERN; 2816],
         due,
-        &mut [crate::NOTE_PATTERN; 4],
-        &mut [crate::NOTE_PATTERN; 3],
+        &mut [NOTE_PATTERN; 4],
+        &mut [NOTE_PATTERN; 3],
     );
 }
 
 fn refused(edge: &[u8], file: &[u8]) {
     sent(edge, file, &[crate::PATTERN; 2816]);
+}
+
+// The same of a file with a text written over it.
+fn refused_with(edge: &[u8], file: &[u8; 2816], at: usize, text: &[u8]) {
+    refused(edge, &with(file, at, text));
 }
 
 fn tell_field(name: &[u8], field: &[u8]) {
@@ -155,19 +105,40 @@ fn tell_field(name: &[u8], field: &[u8]) {
     say(b"\n");
 }
 
-// The strict way refuses the whole file. The default way puts Z in the third payment's place, and restore gives back what
-// is kept.
-fn one_comes_back(file: &[u8; 2816]) {
-    crate::refused(
-        0,
-        b"the second of three broken, strict",
-        file,
-        &mut [crate::PATTERN; 2816],
-        &[crate::PATTERN; 2816],
-        &mut [crate::NOTE_PATTERN; 4],
-    );
+// Whether note places kept their pattern.
+fn patterned(notes: &[u32; 4]) -> bool {
+    (notes[0] == NOTE_PATTERN)
+        & (notes[1] == NOTE_PATTERN)
+        & (notes[2] == NOTE_PATTERN)
+        & (notes[3] == NOTE_PATTERN)
+}
+
+// The strict way, which refuses the whole file.
+fn strict(file: &[u8]) {
     let mut out = [crate::PATTERN; 2816];
-    let mut notes = [crate::NOTE_PATTERN; 4];
+    let mut notes = [NOTE_PATTERN; 4];
+    let p = prepare::strict(0, file, &crate::LIST, &crate::LIST, &mut out, &mut notes);
+    tell(b"the second of three broken, strict", p.number, p.rec);
+    crate::tell_output(false, fields::same(&out, &[crate::PATTERN; 2816]));
+    tell_whether(b"  note places untouched", patterned(&notes));
+}
+
+// What is kept, from its forwarded file.
+fn restored(forwarded: &[u8], notes: &[u32]) {
+    let kept = first_and_third(b"M&M STUDIO");
+    let mut out = [crate::PATTERN; 2048];
+    let r = restore::restore(0, forwarded, notes, &crate::LIST, &crate::LIST, &mut out);
+    tell(b"what is kept, restored", r.number, r.rec);
+    tell_whether(
+        b"  the very file is back",
+        fields::same(&out, &kept[0..2048]),
+    );
+}
+
+// The default way puts Z in the third payment's place.
+fn one_comes_back(file: &[u8]) {
+    let mut out = [crate::PATTERN; 2816];
+    let mut notes = [NOTE_PATTERN; 4];
     prepare(
         0,
         b"the second of three broken",
@@ -175,17 +146,11 @@ fn one_comes_back(file: &[u8; 2816]) {
         &mut out,
         &first_and_third(b"M+M STUDIO"),
         &mut notes,
-        &mut [crate::NOTE_PATTERN; 3],
+        &mut [NOTE_PATTERN; 3],
     );
     tell_field(b"  Z3 ", &out[THIRD + Z3..THIRD + Z4]);
     tell_field(b"  Z4 ", &out[THIRD + Z4..THIRD + Z5]);
-    let kept = first_and_third(b"M&M STUDIO");
-    crate::restore(
-        b"what is kept, restored",
-        &out[0..2048],
-        &notes[0..2],
-        &kept[0..2048],
-    );
+    restored(&out[0..2048], &notes[0..2]);
 }
 
 // Ten payments, whose sum has 15 digits, and one of 9,00 that comes back. Z goes to its place.
@@ -205,7 +170,7 @@ fn long_sum() {
         &mut out,
         &due,
         &mut [],
-        &mut [crate::NOTE_PATTERN; 2],
+        &mut [NOTE_PATTERN; 2],
     );
     tell_field(b"  Z3 ", &out[last + Z3..last + Z4]);
     tell_field(b"  Z4 ", &out[last + Z4..last + Z5]);
@@ -223,11 +188,8 @@ fn a_single_payment() {
 // Rule 21 compares with record 1.
 fn first_account() {
     let file = three();
-    refused(b"a letter in the first T3", &with(&file, FIRST + T3, b"X"));
-    refused(
-        b"a letter in the first T4b",
-        &with(&file, FIRST + T4B, b"X"),
-    );
+    refused_with(b"a letter in the first T3", &file, FIRST + T3, b"X");
+    refused_with(b"a letter in the first T4b", &file, FIRST + T4B, b"X");
     let mut kept = payment(b"M+M STUDIO", 100, 50);
     put(&mut kept, T3, b"6");
     let due = left(&kept, &[], 100, 1);
@@ -241,9 +203,11 @@ fn first_account() {
 // The same where record 1 comes back, by T4a, which rule 21 does not read.
 fn first_comes_back() {
     let file = with(&three(), FIRST + T4A, b"USD");
-    refused(
+    refused_with(
         b"the first T4a broken, its T3 mistyped",
-        &with(&file, FIRST + T3, b"6"),
+        &file,
+        FIRST + T3,
+        b"6",
     );
     let second = payment(b"A+B+C", 20, 25);
     let third = payment(b"M+M STUDIO", 3, 0);
@@ -261,29 +225,37 @@ fn first_comes_back() {
 }
 
 // Beside a broken payment: amounts that are no numbers, and a Z that is not the submitted payments'.
-fn second_broken(file: &[u8; 2816]) {
+fn letters_in_amounts(file: &[u8; 2816]) {
     let spoiled = with(file, THIRD + T14A, b"X");
     refused(b"the second broken, a letter in the third T14a", &spoiled);
-    refused(
+    refused_with(
         b"the second broken, a letter in its T14a too",
-        &with(&spoiled, SECOND + T14A, b"X"),
+        &spoiled,
+        SECOND + T14A,
+        b"X",
     );
-    refused(
+    refused_with(
         b"the second broken, a letter in the third T14b",
-        &with(file, THIRD + T14B, b"00X"),
+        file,
+        THIRD + T14B,
+        b"00X",
     );
-    refused(
+}
+
+fn other_totals(file: &[u8; 2816]) {
+    refused_with(
         b"the second broken, Z3 124",
-        &with(file, Z + Z3, b"000000000000124"),
+        file,
+        Z + Z3,
+        b"000000000000124",
     );
-    refused(
+    refused_with(
         b"the second broken, Z3 103",
-        &with(file, Z + Z3, b"000000000000103"),
+        file,
+        Z + Z3,
+        b"000000000000103",
     );
-    refused(
-        b"the second broken, Z4 2",
-        &with(file, Z + Z4, b"000000000000002"),
-    );
+    refused_with(b"the second broken, Z4 2", file, Z + Z4, b"000000000000002");
 }
 
 // In digits, an amount that breaks rule 33 is its payment's fault alone.
@@ -304,8 +276,8 @@ fn as_strict(file: &[u8], due: &[u8]) {
         file,
         &mut [crate::PATTERN; 2817],
         due,
-        &mut [crate::NOTE_PATTERN; 5],
-        &mut [crate::NOTE_PATTERN; 1],
+        &mut [NOTE_PATTERN; 5],
+        &mut [NOTE_PATTERN; 1],
     );
     prepare(
         0,
@@ -313,7 +285,7 @@ fn as_strict(file: &[u8], due: &[u8]) {
         file,
         &mut [crate::PATTERN; 2817],
         due,
-        &mut [crate::NOTE_PATTERN; 5],
+        &mut [NOTE_PATTERN; 5],
         &mut [],
     );
 }
@@ -322,9 +294,9 @@ fn as_strict(file: &[u8], due: &[u8]) {
 fn nothing_comes_back() {
     let file = three();
     let mut out = [crate::PATTERN; 2817];
-    let mut notes = [crate::NOTE_PATTERN; 5];
+    let mut notes = [NOTE_PATTERN; 5];
     let p = prepare::strict(0, &file, &crate::LIST, &crate::LIST, &mut out, &mut notes);
-    crate::tell(b"three sound payments, strict", p.number, p.rec);
+    tell(b"three sound payments, strict", p.number, p.rec);
     say_places(b"  noted", &notes);
     say(b"\n");
     as_strict(&file, &out);
@@ -338,8 +310,8 @@ fn cramped(page: u32, edge: &[u8], file: &[u8]) {
         file,
         &mut [crate::PATTERN; 1279],
         &[crate::PATTERN; 1279],
-        &mut [crate::NOTE_PATTERN; 1],
-        &mut [crate::NOTE_PATTERN; 1],
+        &mut [NOTE_PATTERN; 1],
+        &mut [NOTE_PATTERN; 1],
     );
 }
 
@@ -355,50 +327,54 @@ fn exact_output(edge: &[u8], file: &[u8], due: &[u8], notes: &mut [u32], list: &
     prepare(0, edge, file, &mut out, due, notes, list);
 }
 
+// The same with a list that is one short.
+fn short_list(edge: &[u8], file: &[u8], notes: &mut [u32]) {
+    exact_output(
+        edge,
+        file,
+        &[crate::PATTERN; 1280],
+        notes,
+        &mut [NOTE_PATTERN; 1],
+    );
+}
+
 // Then note places and list become exact too.
 fn roomier(file: &[u8; 2816]) {
-    exact_output(
-        b"then with exact output",
-        file,
-        &[crate::PATTERN; 1280],
-        &mut [crate::NOTE_PATTERN; 1],
-        &mut [crate::NOTE_PATTERN; 1],
-    );
-    exact_output(
-        b"then with exact note places",
-        file,
-        &[crate::PATTERN; 1280],
-        &mut [crate::NOTE_PATTERN; 2],
-        &mut [crate::NOTE_PATTERN; 1],
-    );
+    short_list(b"then with exact output", file, &mut [NOTE_PATTERN; 1]);
+    short_list(b"then with exact note places", file, &mut [NOTE_PATTERN; 2]);
     let due = left(&payment(b"A+B+C", 20, 25), &[], 20, 1);
     exact_output(
         b"then with an exact list",
         file,
         &due[0..1280],
-        &mut [crate::NOTE_PATTERN; 2],
-        &mut [crate::NOTE_PATTERN; 2],
+        &mut [NOTE_PATTERN; 2],
+        &mut [NOTE_PATTERN; 2],
     );
 }
 
-// A Q, three payments and a Z that break rules, the third payment and Z several.
+// The third payment breaks several rules.
+fn break_payments(file: &mut [u8; 2816]) {
+    put(file, FIRST + T13, b"USD");
+    put(file, SECOND + T13, b"USD");
+    put(file, THIRD + T11, b"X");
+    put(file, THIRD + T14A, b"X");
+    put(file, THIRD + T26, b"X");
+}
+
+fn break_z(file: &mut [u8; 2816]) {
+    put(file, Z + Z3, b"9");
+    put(file, Z + Z4, b"9");
+    put(file, Z + Z5, b"X");
+}
+
 fn all_broken() -> [u8; 2816] {
-    let mut file = three();
-    put(&mut file, Q9, b"X");
-    put(&mut file, FIRST + T13, b"USD");
-    put(&mut file, SECOND + T13, b"USD");
-    put(&mut file, THIRD + T11, b"X");
-    put(&mut file, THIRD + T14A, b"X");
-    put(&mut file, THIRD + T26, b"X");
-    put(&mut file, Z + Z3, b"9");
-    put(&mut file, Z + Z4, b"9");
-    put(&mut file, Z + Z5, b"X");
+    let mut file = with(&three(), Q9, b"X");
+    break_payments(&mut file);
+    break_z(&mut file);
     file
 }
 
-fn mend(file: &mut [u8; 2816]) {
-    mended(b"then with Q9 mended", file, Q9, b"N");
-    mended(b"then with T14a mended", file, THIRD + T14A, b"0");
+fn mend_z(file: &mut [u8; 2816]) {
     mended(b"then with Z5 mended", file, Z + Z5, b" ");
     mended(b"then with Z4 mended", file, Z + Z4, b"0");
     mended(
@@ -407,6 +383,12 @@ fn mend(file: &mut [u8; 2816]) {
         Z + Z3,
         b"0",
     );
+}
+
+fn mend(file: &mut [u8; 2816]) {
+    mended(b"then with Q9 mended", file, Q9, b"N");
+    mended(b"then with T14a mended", file, THIRD + T14A, b"0");
+    mend_z(file);
     mended(
         b"then with the second payment mended",
         file,
@@ -427,12 +409,14 @@ fn in_turn() {
 
 pub fn edges() {
     let file = with(&three(), SECOND + T13, b"USD");
+    strict(&file);
     one_comes_back(&file);
     long_sum();
     a_single_payment();
     first_account();
     first_comes_back();
-    second_broken(&file);
+    letters_in_amounts(&file);
+    other_totals(&file);
     amounts();
     nothing_comes_back();
     in_turn();

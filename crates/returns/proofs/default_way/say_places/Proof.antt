@@ -1,8 +1,8 @@
 use Prim.Native.Nat.{_-_}
 use lib.ListN.{length}
 use borrow.Author.Needs.{needs}
-use Rattle.edges.proofs.returns.say_places.Statement.{statement}
-use Rattle.edges.proofs.returns.say_places.Tie as tie
+use Rattle.returns.proofs.default_way.say_places.Statement.{statement}
+use Rattle.returns.proofs.default_way.say_places.Tie as tie
 
 abbrev Inv-loop : tie.InvT-loop
 Inv-loop name places i₀ i = Unit {0}

@@ -1,0 +1,3 @@
+pub mod Fields
+pub mod Carried
+pub mod Filing

@@ -1,0 +1,5 @@
+pub mod Record
+pub mod Filed
+pub mod Writing
+pub mod Course
+pub mod Outcome
