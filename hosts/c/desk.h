@@ -27,7 +27,7 @@ enum desk_page {
 
 /* Refusal numbers. */
 enum desk_number {
-    DESK_SOUND = 0,                /* of desk_prepare: what is kept goes on */
+    DESK_SOUND = 0,                /* of desk_prepare: what is kept goes on; of desk_m8: the records are written */
     DESK_TOO_LONG = 1,             /* file longer than 7,679,744 bytes */
     DESK_CUT = 2,                  /* file ends inside a record, or where one is due */
     DESK_LENGTH_DIGITS = 3,        /* length digits wrong for the letter */
@@ -62,8 +62,9 @@ enum desk_number {
     DESK_Z3 = 42,                  /* Z3 is not the sum of all T14a */
     DESK_ALL_RETURNED = 43,        /* every payment would be returned */
     DESK_TAKEN = 50,               /* the file number is a taken one */
-    DESK_OUTPUT_ROOM = 60,         /* output room shorter than the file that goes on or is restored */
+    DESK_OUTPUT_ROOM = 60,         /* output room shorter than the file that goes on or is restored, or than the M8 records */
     DESK_NOTE_ROOM = 61,           /* more changes in the file that goes on than note places */
+    DESK_CODE_TABLE = 62,          /* the table of M8 codes is not 96 bytes */
     DESK_RETURN_ROOM = 63,         /* returned list has fewer places than returned payments */
     DESK_NO_SUCH_PAIR = 70         /* restore: no sound file yields this pair */
 };
@@ -76,6 +77,7 @@ typedef struct { uint64_t number, record, at, payments, euros, cents, changes; }
 typedef struct { uint64_t number, record, notes, kept, returned, kept_euros, returned_euros; } desk_prepared;
 typedef struct { uint64_t number, record, notes; } desk_strict;
 typedef struct { uint64_t number, record; } desk_restored;
+typedef struct { uint64_t number, record, count; } desk_returns;
 typedef struct { uint64_t start, length; } desk_part;
 
 /* A reader is a value, which may be copied and kept. What is in it is the desk's own, and a newer desk may have another. */
@@ -146,6 +148,26 @@ desk_prepared desk_prepare(uint32_t page, const uint8_t *file, size_t n,
 desk_strict desk_prepare_strict(uint32_t page, const uint8_t *file, size_t n,
                                 const uint8_t *transfer, size_t nt, const uint8_t *cheque, size_t nc,
                                 uint8_t *out, size_t out_n, uint32_t *notes, size_t notes_n);
+
+/* The bytes of an M8 record, and of a table of codes for desk_m8. */
+enum { DESK_M8_RECORD = 124, DESK_M8_CODES = 96 };
+
+/* Writes an M8 record of 124 bytes for each payment that desk_prepare returns, on the same page and with the same lists: the
+   i-th record is that of the i-th number in its list. codes has six bytes for each rule from 20 to 35, in that order: 96
+   bytes. desk_m8_codes (codes.h) is such a table: codes of the receiver's list, by the desk's reading of it.
+   Number 0: out begins with the records, and the rest keeps its bytes; count tells how many, which may be 0. 124 bytes for
+   each payment that desk_prepare returns are room enough, and so are 1,239,752 bytes always: one payment has to go on, so at
+   most 9,998 come back.
+   Refused: the number, its record, and count 0. In this order: 7; the numbers that desk_prepare answers up to 43, with their
+   record; 62 where codes is not 96 bytes, also where nothing is returned; 60 where out is shorter than 124 bytes for each
+   record. The record of 62 and 60 is 0. 50, 61 and 63 do not occur.
+   A record, with columns from 1: 1 to 3 DM8; 4 to 9 the file's Q6; 10 to 14 three zeros and Q7; 15 to 21 zeros; 22 to 38
+   spaces; 39 to 56 two zeros, T14a and the first two digits of T14b, so the amount in cents; 57 to 62 the code of the first
+   rule that the payment breaks; 63 to 97 the first line of T15, its first 35 bytes, with its characters replaced; 98 to 124
+   spaces. */
+desk_returns desk_m8(uint32_t page, const uint8_t *file, size_t n,
+                     const uint8_t *transfer, size_t nt, const uint8_t *cheque, size_t nc,
+                     const uint8_t *codes, size_t codes_n, uint8_t *out, size_t out_n);
 
 /* Restores the file that went on, from the forwarded file and all of its notes. After desk_prepare that is the kept file:
    returned payments are in the submitted file alone, so keep it. 7 first, then 60, then 70. Number 0: out begins with the

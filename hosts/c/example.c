@@ -1,9 +1,9 @@
 /* A host: prepares a file and tells what it finds. Payments that break a rule come back, each with its amount, its payee
    and the field; the others go on. Each change is told with its field and the characters before and after, restore is
-   shown to give back what goes on, and the forwarded file and its notes are written. Or it judges a file that arrives on
-   standard input, and tells how many characters would be changed.
+   shown to give back what goes on, and the forwarded file, its notes and M8 records of what comes back are written. Or it
+   judges a file that arrives on standard input, and tells how many characters would be changed.
 
-       example [--page 0|1] [--strict] FILE [FORWARDED NOTES]
+       example [--page 0|1] [--strict | --m8 M8] FILE [FORWARDED NOTES]
        example [--page 0|1] -
 
    The page says at which codes the file has the four German characters: 0 is DIN 66003, 1 is ISO 8859-1. Where none is
@@ -16,24 +16,33 @@
    A payee is told as the page reads it, in UTF-8. What the page has no character for, and what a terminal would obey, is
    told as U+FFFD.
 
+   With --m8 there is an M8 record for each payment that comes back, with a code of docs/M8-CODES.md. Each is told, and
+   all are written to M8, one behind the other: 124 bytes each, in ASCII. What the receiver's own messages have around
+   them is not there (docs/DIFFERENCES.md, D50 and D51). Where no payment comes back M8 is not written. The strict way
+   returns none, so it takes no --m8. M8 may be named without FORWARDED and NOTES: whoever has those already need not
+   write them twice.
+
    Standard input may be of any length: it goes through a reader in cuts, and no more than one cut is held. It can be
    judged and not prepared, for prepare takes a whole file; the judge is always strict.
 
    It writes over nothing, and nothing that fails leaves anything behind:
-   1. FORWARDED and NOTES are two new files: what is there already is never replaced, FILE least of all.
+   1. FORWARDED, NOTES and M8 are new files: what is there already is never replaced, FILE least of all.
    2. FILE is read, judged, prepared and restored in memory. What is restored has to be the very file, or where payments
-      come back the kept file, put together from FILE and the list.
+      come back the kept file, put together from FILE and the list. Where M8 records are asked for, there has to be one
+      for each payment that comes back.
    3. All this is told. Where it cannot be printed nothing is written: no file goes on with changes, or without
       payments, that nobody saw.
-   4. Notes and forwarded file are written, down to the disk, each to a new file beside its target: the target's name
-      with .new behind it. Where such a file is there already, as a killed run leaves it, it stays and the run ends.
-   5. When both are complete they are renamed to their targets, the notes first: no forwarded file is without them.
-   Where a step fails, what it made is removed.
+   4. Those that are named are written, down to the disk, each to a new file beside its target: the target's name with
+      .new behind it. Where such a file is there already, as a killed run leaves it, it stays and the run ends.
+   5. When all are complete they are renamed to their targets, the forwarded file last: none is without its notes, nor
+      without the M8 records that were asked for.
+   Where a step fails, what was made is removed.
 
-   In the notes file each note has four bytes, little-endian. Status 0: the whole file goes on, and all is done; 1: nothing
-   goes on, for it is refused or not restored; 2: used wrongly, or something could not be read or written; 3: all is done,
-   but some payments come back. */
+   In the notes file each note has four bytes, little-endian. Status 0: the whole file goes on, and all is done; 1:
+   nothing goes on, for it is refused or not restored, or an M8 record is missing; 2: used wrongly, or something could not
+   be read or written; 3: all is done, but some payments come back. */
 #define _POSIX_C_SOURCE 200809L
+#include "codes.h"
 #include "desk.h"
 #include "words.h"
 
@@ -61,7 +70,8 @@ static const uint64_t none_taken[1];
 enum { MOST = 7679744, CUT = 64 * 1024 }; /* bytes of the longest file, and of a cut of standard input */
 enum { Q = 256, T = 768, Z = 256, PAYMENTS = (MOST - Q - Z) / T }; /* bytes of the records; payments of the longest file */
 enum { T10B = 210, LINE = 35, T14A = 458, T14B = 472, Z3 = 5, Z4 = 20, Z5 = 35 }; /* where fields begin; a line of T10b */
-static uint8_t file[MOST + 1], forwarded[MOST + 1], restored[MOST + 1], kept[MOST + 1];
+enum { M8_DATE = 3, M8_FILE = 9, M8_AMOUNT = 38, M8_CODE = 56, M8_REFERENCE = 62 }; /* the same of an M8 record */
+static uint8_t file[MOST + 1], forwarded[MOST + 1], restored[MOST + 1], kept[MOST + 1], m8[PAYMENTS * DESK_M8_RECORD];
 static uint32_t notes[MOST], returned[PAYMENTS];
 
 /* The status to end with. */
@@ -80,11 +90,12 @@ static const struct { const char *word, *name; } pages[] = {
     [DESK_ISO_8859_1] = {"1", "page 1 (ISO 8859-1)"},
 };
 
-/* What is asked for: the page, whether the file is to go on as a whole, and by the other words the paths, or - alone for
-   standard input. */
+/* What is asked for: the page, whether the file is to go on as a whole, where M8 records go (null: nowhere), and by the
+   other words the paths, or - alone for standard input. */
 typedef struct {
     uint32_t page;
     bool is_strict;
+    const char *m8;
     int count;
     char **words;
 } request;
@@ -113,6 +124,17 @@ static bool take_page(request *asked)
     return false;
 }
 
+/* Takes the path behind --m8. */
+static bool take_m8(request *asked)
+{
+    if (asked->count < 1) {
+        fprintf(stderr, "--m8 names no file\n");
+        return false;
+    }
+    asked->m8 = asked->words[0];
+    return take(asked, asked->m8);
+}
+
 /* Takes the options, in any order and each once. */
 static bool take_options(request *asked)
 {
@@ -123,6 +145,9 @@ static bool take_options(request *asked)
             names_page = true;
             if (!take_page(asked))
                 return false;
+        } else if (!asked->m8 && take(asked, "--m8")) {
+            if (!take_m8(asked))
+                return false;
         } else {
             return true;
         }
@@ -131,19 +156,29 @@ static bool take_options(request *asked)
 
 static bool is_input(const char *word) { return strcmp(word, "-") == 0; }
 
-/* Whether each word can be what it stands for: standard input stands alone, and behind the options there is no other. */
+/* Whether a word can be a path: not where it begins as an option does. */
+static bool is_path(const char *word)
+{
+    if (word[0] != '-')
+        return true;
+    fprintf(stderr, "%s: no option in this place; a file of that name is ./%s\n", word, word);
+    return false;
+}
+
+/* Whether each word can be what it stands for: standard input stands alone, the strict way has no M8 records, and all other
+   words are paths. */
 static bool are_in_place(const request *asked)
 {
     int first = asked->count > 0 && is_input(asked->words[0]) ? 1 : 0;
-    if (first && asked->count > 1)
-        return wrong(asked->words[0], "standard input can only be judged; FORWARDED and NOTES need a FILE");
-    for (int i = first; i < asked->count; i++) {
-        const char *word = asked->words[i];
-        if (word[0] == '-') {
-            fprintf(stderr, "%s: no option in this place; a file of that name is ./%s\n", word, word);
+    if (first && (asked->count > 1 || asked->m8))
+        return wrong(asked->words[0], "standard input can only be judged; FORWARDED, NOTES and M8 need a FILE");
+    if (asked->is_strict && asked->m8)
+        return wrong("--m8", "with --strict no payment comes back, and there are no M8 records");
+    if (asked->m8 && !is_path(asked->m8))
+        return false;
+    for (int i = first; i < asked->count; i++)
+        if (!is_path(asked->words[i]))
             return false;
-        }
-    }
     return true;
 }
 
@@ -154,12 +189,12 @@ static bool understand(request *asked)
         return false;
     if (are_in_place(asked) && (asked->count == 1 || asked->count == 3))
         return true;
-    fprintf(stderr, "usage: example [--page 0|1] [--strict] FILE [FORWARDED NOTES], or example [--page 0|1] -\n");
+    fprintf(stderr, "usage: example [--page 0|1] [--strict | --m8 M8] FILE [FORWARDED NOTES], or example [--page 0|1] -\n");
     return false;
 }
 
-/* The paths: the words, and the new files that become the two targets. */
-enum { GIVEN, FORWARDED, NOTES, NEW_FORWARDED, NEW_NOTES, PATHS };
+/* The paths of what is written: the targets, and then the new files that become them. One that is not named is null. */
+enum { FORWARDED, NOTES, M8, TARGETS, NEW = TARGETS, PATHS = 2 * TARGETS };
 
 /* A text's first bytes, with an end behind them. */
 static char *joined(const char *text, size_t length, const char *end)
@@ -218,11 +253,11 @@ static bool is_free(const char *path)
 static bool are_new(const char *const paths[PATHS])
 {
     location at[PATHS];
-    for (int i = FORWARDED; i < PATHS; i++) {
-        if (!is_free(paths[i]) || !locate(paths[i], &at[i]))
+    for (int i = 0; i < PATHS; i++) {
+        if (paths[i] && (!is_free(paths[i]) || !locate(paths[i], &at[i])))
             return false;
-        for (int j = FORWARDED; j < i; j++)
-            if (same(&at[i], &at[j])) {
+        for (int j = 0; j < i; j++)
+            if (paths[i] && paths[j] && same(&at[i], &at[j])) {
                 fprintf(stderr, "%s and %s are the same file\n", paths[j], paths[i]);
                 return false;
             }
@@ -243,51 +278,65 @@ static bool read_whole(const char *path, size_t *n)
     return complete || wrong(path, strerror(why));
 }
 
+/* What is to be written: the target, the new file that becomes it, and what it holds. */
+typedef struct {
+    const char *path, *new_path;
+    const void *bytes;
+    size_t size;
+} output;
+
 /* Writes a new file, down to the disk. Where that fails nothing of it is left. */
-static bool write_new(const char *path, const void *bytes, size_t size)
+static bool write_new(const output *due)
 {
-    FILE *f = fopen(path, "wbx"); /* x: only where there is none */
+    FILE *f = fopen(due->new_path, "wbx"); /* x: only where there is none */
     if (!f)
-        return wrong(path, strerror(errno));
-    bool complete = fwrite(bytes, 1, size, f) == size && fflush(f) == 0 && fsync(fileno(f)) == 0;
+        return wrong(due->new_path, strerror(errno));
+    bool complete = fwrite(due->bytes, 1, due->size, f) == due->size && fflush(f) == 0 && fsync(fileno(f)) == 0;
     int why = errno;
     bool closed = fclose(f) == 0;
     if (complete && closed)
         return true;
     if (complete)
         why = errno;
-    unlink(path);
-    return wrong(path, strerror(why));
+    unlink(due->new_path);
+    return wrong(due->new_path, strerror(why));
 }
 
-/* Renames a complete new file to its target. Where that fails nothing of it is left. */
-static bool put_in_place(const char *new_path, const char *path)
+/* Renames a complete new file to its target. */
+static bool put_in_place(const output *due)
 {
-    if (rename(new_path, path) == 0)
+    return rename(due->new_path, due->path) == 0 || wrong(due->path, strerror(errno));
+}
+
+/* Writes so many files, and puts them in place in their order: all, or none. */
+static bool write_all(const output outputs[], int count)
+{
+    int written = 0, placed = 0;
+    while (written < count && write_new(&outputs[written]))
+        written++;
+    while (written == count && placed < count && put_in_place(&outputs[placed]))
+        placed++;
+    if (placed == count)
         return true;
-    wrong(path, strerror(errno));
-    unlink(new_path);
+    for (int i = 0; i < written; i++)
+        unlink(i < placed ? outputs[i].path : outputs[i].new_path);
     return false;
 }
 
-/* Writes the forwarded file and so many notes: both, or none. */
-static bool write_both(const char *const paths[PATHS], size_t n, uint64_t count)
+static size_t bytes_kept(const desk_prepared *sent) { return Q + (size_t)sent->kept * T + Z; }
+
+/* Writes what is named: M8 only where payments come back, and the forwarded file last. */
+static bool write_named(const char *const paths[PATHS], const desk_prepared *sent)
 {
-    if (!write_new(paths[NEW_NOTES], notes, count * sizeof notes[0]))
-        return false;
-    if (!write_new(paths[NEW_FORWARDED], forwarded, n)) {
-        unlink(paths[NEW_NOTES]);
-        return false;
-    }
-    if (!put_in_place(paths[NEW_NOTES], paths[NOTES])) {
-        unlink(paths[NEW_FORWARDED]);
-        return false;
-    }
-    if (!put_in_place(paths[NEW_FORWARDED], paths[FORWARDED])) {
-        unlink(paths[NOTES]);
-        return false;
-    }
-    return true;
+    output outputs[TARGETS];
+    int count = 0;
+    if (paths[NOTES])
+        outputs[count++] = (output){paths[NOTES], paths[NEW + NOTES], notes, sent->notes * sizeof notes[0]};
+    if (paths[M8] && sent->returned)
+        outputs[count++] = (output){paths[M8], paths[NEW + M8], m8, sent->returned * DESK_M8_RECORD};
+    if (paths[FORWARDED])
+        outputs[count++] = (output){paths[FORWARDED], paths[NEW + FORWARDED], forwarded, bytes_kept(sent)};
+    return write_all(outputs, count);
 }
 
 /* Tells the change at a place of the file that goes on, and the byte that was there. Changes are in Q and in T records
@@ -440,8 +489,8 @@ static desk_prepared prepare(const request *asked, size_t n, const desk_judgemen
     return (desk_prepared){sent.number, sent.record, sent.notes, judged->payments, 0, judged->euros, 0};
 }
 
-/* Puts the kept file together: the records of FILE that are not in the list, and Z with the figures. Its bytes. */
-static size_t put_together(size_t n, const desk_prepared *sent)
+/* Puts the kept file together: the records of FILE that are not in the list, and Z with the figures. */
+static void put_together(size_t n, const desk_prepared *sent)
 {
     char figures[64];
     uint8_t *end = kept + Q;
@@ -456,34 +505,62 @@ static size_t put_together(size_t n, const desk_prepared *sent)
     snprintf(figures, sizeof figures, "%015" PRIu64 "%015" PRIu64, sent->kept_euros, sent->kept);
     memcpy(end, file + n - Z, Z);
     memcpy(end + Z3, figures, Z5 - Z3);
-    return (size_t)(end + Z - kept);
 }
 
-/* Judges, prepares and restores the file in memory, and tells what it finds. The status; where something goes on, the
-   forwarded file has so many bytes and notes, and what was restored from it is what goes on. */
-static int examine(const request *asked, size_t n, size_t *bytes, uint64_t *count)
+/* Tells the M8 record of a payment: number and date of the file, amount, reference and code. */
+static void tell_m8(uint64_t payment_record, const uint8_t *record)
+{
+    const char *digits = (const char *)record, *meaning = desk_m8_meaning(record + M8_CODE);
+    uint64_t cents = number_at(record, M8_AMOUNT, M8_CODE);
+    printf("M8 of record %" PRIu64 ": file %.5s of 20%.2s-%.2s-%.2s, %" PRIu64 ",%02" PRIu64 " euros, reference ",
+           payment_record, digits + M8_FILE, digits + M8_DATE, digits + M8_DATE + 2, digits + M8_DATE + 4,
+           cents / 100, cents % 100);
+    tell_text(DESK_ISO_8859_1, record + M8_REFERENCE, LINE); /* replaced: it reads alike on both pages */
+    printf("\n    code %.6s: %s\n", digits + M8_CODE, meaning ? meaning : "?");
+}
+
+/* Makes the M8 records, and tells them. There has to be one for each payment that comes back. */
+static bool make_m8(uint32_t page, size_t n, const desk_prepared *sent)
+{
+    desk_returns made = desk_m8(page, file, n, LISTS, desk_m8_codes, sizeof desk_m8_codes, m8, sizeof m8);
+    if (made.number || made.count != sent->returned) {
+        puts("not an M8 record for each payment that comes back");
+        return false;
+    }
+    for (uint64_t i = 0; i < made.count; i++)
+        tell_m8(returned[i] / 100, m8 + i * DESK_M8_RECORD);
+    if (!made.count)
+        puts("no M8 records, and no file of them: no payment comes back");
+    return true;
+}
+
+/* Judges, prepares and restores the file in memory, and tells what it finds. The status; where something goes on, what was
+   sent, and what was restored from it is what goes on. */
+static int examine(const request *asked, size_t n, desk_prepared *sent)
 {
     desk_judgement judged = desk_judge_full(asked->page, file, n, LISTS, none_taken, 0);
-    desk_prepared sent = prepare(asked, n, &judged);
-    if (sent.number) {
-        tell_refusal(asked->page, &sent, &judged);
+    *sent = prepare(asked, n, &judged);
+    if (sent->number) {
+        tell_refusal(asked->page, sent, &judged);
         return NOTHING_GOES_ON;
     }
-    if (sent.returned)
-        tell_sorted(asked->page, n, &sent);
+    if (sent->returned)
+        tell_sorted(asked->page, n, sent);
     else
         tell_sound(asked->page, judged.payments, judged.euros, judged.cents);
-    tell_changes(sent.notes);
-    *count = sent.notes;
-    *bytes = put_together(n, &sent);
+    tell_changes(sent->notes);
 
-    desk_restored back = desk_restore(asked->page, forwarded, *bytes, notes, *count, LISTS, restored, sizeof restored);
-    if (back.number || memcmp(kept, restored, *bytes) != 0) {
+    size_t bytes = bytes_kept(sent);
+    put_together(n, sent);
+    desk_restored back = desk_restore(asked->page, forwarded, bytes, notes, sent->notes, LISTS, restored, sizeof restored);
+    if (back.number || memcmp(kept, restored, bytes) != 0) {
         puts("not restored");
         return NOTHING_GOES_ON;
     }
-    printf("restored: the very %s\n", sent.returned ? "kept file" : "file");
-    return sent.returned ? SOME_COME_BACK : ALL_GOES_ON;
+    printf("restored: the very %s\n", sent->returned ? "kept file" : "file");
+    if (asked->m8 && !make_m8(asked->page, n, sent))
+        return NOTHING_GOES_ON;
+    return sent->returned ? SOME_COME_BACK : ALL_GOES_ON;
 }
 
 /* Whether all that was told could be printed. */
@@ -498,24 +575,22 @@ static bool is_printed(void)
 /* The host's work on a file: the status to end with. */
 static int work_on_file(const request *asked)
 {
-    bool writes = asked->count == 3;
-    const char *paths[PATHS] = {asked->words[0]};
-    if (writes) {
-        paths[FORWARDED] = asked->words[1];
-        paths[NOTES] = asked->words[2];
-        paths[NEW_FORWARDED] = new_name(asked->words[1]);
-        paths[NEW_NOTES] = new_name(asked->words[2]);
-    }
-    size_t n = 0, bytes = 0;
-    uint64_t count = 0;
-    if ((writes && !are_new(paths)) || !read_whole(paths[GIVEN], &n))
+    bool writes_pair = asked->count == 3;
+    const char *paths[PATHS] = {
+        [FORWARDED] = writes_pair ? asked->words[1] : NULL,
+        [NOTES] = writes_pair ? asked->words[2] : NULL,
+        [M8] = asked->m8,
+    };
+    for (int i = 0; i < TARGETS; i++)
+        paths[NEW + i] = paths[i] ? new_name(paths[i]) : NULL;
+    size_t n = 0;
+    if (!are_new(paths) || !read_whole(asked->words[0], &n))
         return FAILED;
-    int status = examine(asked, n, &bytes, &count);
+    desk_prepared sent;
+    int status = examine(asked, n, &sent);
     if (!is_printed())
         return FAILED;
-    if (status == NOTHING_GOES_ON || !writes)
-        return status;
-    return write_both(paths, bytes, count) ? status : FAILED;
+    return status == NOTHING_GOES_ON || write_named(paths, &sent) ? status : FAILED;
 }
 
 /* Hands standard input to the reader as it comes: to its end, or until it is longer than any sound file, for then more
@@ -560,7 +635,7 @@ static int judge_input(uint32_t page)
 
 int main(int argc, char **argv)
 {
-    request asked = {DESK_ISO_8859_1, false, argc - 1, argv + 1};
+    request asked = {DESK_ISO_8859_1, false, NULL, argc - 1, argv + 1};
     if (!understand(&asked))
         return FAILED;
     signal(SIGPIPE, SIG_IGN); /* where nobody reads on, printing fails, and is told like every other failure */

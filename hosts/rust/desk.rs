@@ -14,6 +14,18 @@ use std::{error, fmt, ops::Range};
 /// The bytes of the longest file that rule 1 lets pass: 9,999 payments.
 pub const MOST_BYTES: u64 = 7_679_744;
 
+/// The bytes of an M8 record.
+pub const M8_RECORD: usize = 124;
+
+/// Codes of M8 records, to be lent to `m8`: six bytes for each rule from 20 to 35, in that order, four rules a line. The
+/// receiver's specification lists the codes and nowhere says which belongs to which rule: the desk's reading of it stands in
+/// docs/M8-CODES.md, with the reasons. A host may lend a table of its own.
+pub const M8_CODES: [u8; 96] = *b"\
+    FI0103TX0101FI0103TX0104\
+    TX0103TX0106TX0106TX0106\
+    LW0101TX0107FI0103TX0107\
+    TX0105FI0103FI0103FI0103";
+
 /// The code page: at which codes the office writes the four German characters Ä, Ö, Ü and ß, which become A, O, U and S. On the one
 /// page the codes of the other become spaces.
 #[derive(Clone, Copy, Debug, PartialEq, Eq)]
@@ -211,6 +223,39 @@ pub fn prepare_strict(
     answer(Refusal { number, record, at: 0 }, notes as usize)
 }
 
+/// Writes an M8 record for each payment that `prepare` returns on the same page and with the same lists, in the order of
+/// its list, and answers how many there are: `out` then begins with them, and the rest keeps its bytes.
+/// `Prepared::m8_bytes` is room enough. `codes` has six bytes for each rule from 20 to 35, in that order, as `M8_CODES`
+/// has. Asked in this order: what `prepare` asks up to 43; 62 where `codes` is not 96 bytes, also where nothing is
+/// returned; 60. hosts/c/desk.h has what stands in a record.
+pub fn m8(page: Page, file: &[u8], lists: Lists, codes: &[u8], out: &mut [u8]) -> Result<usize, Refusal> {
+    let Lists { transfer, cheque } = lists;
+    // SAFETY: each pointer and count is one slice's; out is borrowed for writing, so it overlaps nothing.
+    let returns = unsafe {
+        c::desk_m8(
+            page as u32,
+            file.as_ptr(),
+            file.len(),
+            transfer.as_ptr(),
+            transfer.len(),
+            cheque.as_ptr(),
+            cheque.len(),
+            codes.as_ptr(),
+            codes.len(),
+            out.as_mut_ptr(),
+            out.len(),
+        )
+    };
+    let c::Returns { number, record, count } = returns;
+    answer(Refusal { number, record, at: 0 }, count as usize)
+}
+
+/// What a code of six bytes means in the receiver's list, in English. `None` for those of recalls, which begin with RR, and
+/// for one that is not in the list.
+pub fn m8_meaning(code: &[u8]) -> Option<&'static str> {
+    MEANINGS.iter().find(|row| row.0.as_bytes() == code).map(|row| row.1)
+}
+
 /// Restores the file that went on, from the forwarded file and all of its notes: `out` then begins with it, and the rest
 /// keeps its bytes. After `prepare` that is the kept file: returned payments are in the submitted file alone, so keep it.
 /// 60 is asked first, then 70.
@@ -351,6 +396,11 @@ impl Prepared {
     pub fn bytes(&self) -> usize {
         256 + 768 * self.kept + 256
     }
+
+    /// The bytes of the M8 records, one for each returned payment.
+    pub fn m8_bytes(&self) -> usize {
+        M8_RECORD * self.returned
+    }
 }
 
 impl From<u32> for Note {
@@ -419,13 +469,13 @@ impl fmt::Display for Columns {
 impl error::Error for Refusal {}
 
 /// The refusals, in the words of README.md.
-const WORDS: [(u64, &str); 38] = [
+const WORDS: [(u64, &str); 39] = [
     (1, "file longer than 7,679,744 bytes (9,999 payments)"),
     (2, "file ends inside a record, or where one is due"),
     (3, "length digits wrong for the letter"),
     (4, "letter not allowed here"),
     (5, "bytes after Z"),
-    (7, "judge, prepare, restore: code page neither 0 nor 1"),
+    (7, "judge, prepare, M8, restore: code page neither 0 nor 1"),
     (10, "Q3 is not 50400042"),
     (11, "Q4 is not eight zeros and two digits"),
     (12, "first line of Q5 blank"),
@@ -452,12 +502,32 @@ const WORDS: [(u64, &str); 38] = [
     (40, "a non-digit in Z3 or Z4, or Z5 not all spaces"),
     (41, "Z4 is not the number of T records"),
     (42, "Z3 is not the sum of all T14a (whole euros, no cents)"),
-    (43, "prepare: every payment would be returned"),
+    (43, "prepare, M8: every payment would be returned"),
     (50, "judge: the file number (Q4, Q6, Q7) is a taken one"),
-    (60, "prepare, restore: output room shorter than the file that goes on or is restored"),
+    (60, "prepare, M8, restore: output room shorter than the file that goes on or is restored, or than the M8 records"),
     (61, "prepare: more changes in the file that goes on than note places"),
+    (62, "M8: the code table is not 96 bytes"),
     (63, "prepare: returned list has fewer places than returned payments"),
     (70, "restore: no sound file yields this pair"),
+];
+
+/// The codes of docs/M8-CODES.md, in its words.
+const MEANINGS: [(&str, &str); 15] = [
+    ("FO0101", "invalid file format"),
+    ("FI0101", "file submitted twice"),
+    ("FI0102", "the sum of the amounts is not the control total"),
+    ("FI0103", "format fault in a T record"),
+    ("BE0101", "the account holder has given no right to submit"),
+    ("BL0101", "fault of a bulk (a group of payments)"),
+    ("LW0101", "no route can be found"),
+    ("TX0101", "the account number in the order is not that of the account to be charged"),
+    ("TX0102", "type of payment not permitted"),
+    ("TX0103", "form of the charges not permitted"),
+    ("TX0104", "kind of payment in the order not admitted"),
+    ("TX0105", "currency not permitted"),
+    ("TX0106", "details of the payee's bank not correct"),
+    ("TX0107", "details of the payee missing, or in a transfer the payee's account number"),
+    ("TX0201", "maximum number of faulty transactions reached"),
 ];
 
 /// The fields of docs/RULES.md, 2. A name begins with the letter of its record's kind.
@@ -577,6 +647,13 @@ mod c {
     }
 
     #[repr(C)]
+    pub struct Returns {
+        pub number: u64,
+        pub record: u64,
+        pub count: u64,
+    }
+
+    #[repr(C)]
     pub struct Part {
         pub start: u64,
         pub length: u64,
@@ -648,6 +725,20 @@ mod c {
             notes: *mut u32,
             notes_n: usize,
         ) -> Strict;
+
+        pub fn desk_m8(
+            page: u32,
+            file: *const u8,
+            n: usize,
+            transfer: *const u8,
+            nt: usize,
+            cheque: *const u8,
+            nc: usize,
+            codes: *const u8,
+            codes_n: usize,
+            out: *mut u8,
+            out_n: usize,
+        ) -> Returns;
 
         pub fn desk_restore(
             page: u32,

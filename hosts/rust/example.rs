@@ -1,9 +1,9 @@
 //! A host: prepares a file and tells what it finds. Payments that break a rule come back, each with its amount, its payee
 //! and the field; the others go on. Each change is told with its field and the characters before and after, restore is
-//! shown to give back what goes on, and the forwarded file and its notes are written. Or it judges a file that arrives on
-//! standard input, and tells how many characters would be changed.
+//! shown to give back what goes on, and the forwarded file, its notes and M8 records of what comes back are written. Or it
+//! judges a file that arrives on standard input, and tells how many characters would be changed.
 //!
-//!     example [--page 0|1] [--strict] FILE [FORWARDED NOTES]
+//!     example [--page 0|1] [--strict | --m8 M8] FILE [FORWARDED NOTES]
 //!     example [--page 0|1] -
 //!
 //! The page says at which codes the file has the four German characters: 0 is DIN 66003, 1 is ISO 8859-1. Where none is
@@ -16,29 +16,37 @@
 //! A payee is told as the page reads it, in UTF-8. What the page has no character for, and what a terminal would obey, is
 //! told as U+FFFD.
 //!
+//! With --m8 there is an M8 record for each payment that comes back, with a code of docs/M8-CODES.md. Each is told, and
+//! all are written to M8, one behind the other: 124 bytes each, in ASCII. What the receiver's own messages have around
+//! them is not there (docs/DIFFERENCES.md, D50 and D51). Where no payment comes back M8 is not written. The strict way
+//! returns none, so it takes no --m8. M8 may be named without FORWARDED and NOTES: whoever has those already need not
+//! write them twice.
+//!
 //! Standard input may be of any length: it goes through a reader in cuts, and no more than one cut is held. It can be
 //! judged and not prepared, for prepare takes a whole file; the judge is always strict.
 //!
 //! It writes over nothing, and nothing that fails leaves anything behind:
-//! 1. FORWARDED and NOTES are two new files: what is there already is never replaced, FILE least of all.
+//! 1. FORWARDED, NOTES and M8 are new files: what is there already is never replaced, FILE least of all.
 //! 2. FILE is read, judged, prepared and restored in memory. What is restored has to be the very file, or where payments
-//!    come back the kept file, put together from FILE and the list.
+//!    come back the kept file, put together from FILE and the list. Where M8 records are asked for, there has to be one
+//!    for each payment that comes back.
 //! 3. All this is told. Where it cannot be printed nothing is written: no file goes on with changes, or without
 //!    payments, that nobody saw.
-//! 4. Notes and forwarded file are written, down to the disk, each to a new file beside its target: the target's name
-//!    with .new behind it. Where such a file is there already, as a killed run leaves it, it stays and the run ends.
-//! 5. When both are complete they are renamed to their targets, the notes first: no forwarded file is without them.
+//! 4. Those that are named are written, down to the disk, each to a new file beside its target: the target's name with
+//!    .new behind it. Where such a file is there already, as a killed run leaves it, it stays and the run ends.
+//! 5. When all are complete they are renamed to their targets, the forwarded file last: none is without its notes, nor
+//!    without the M8 records that were asked for.
 //!
-//! Where a step fails, what it made is removed.
+//! Where a step fails, what was made is removed.
 //!
-//! In the notes file each note has four bytes, little-endian. Status 0: the whole file goes on, and all is done; 1: nothing
-//! goes on, for it is refused or not restored; 2: used wrongly, or something could not be read or written; 3: all is done,
-//! but some payments come back.
+//! In the notes file each note has four bytes, little-endian. Status 0: the whole file goes on, and all is done; 1:
+//! nothing goes on, for it is refused or not restored, or an M8 record is missing; 2: used wrongly, or something could
+//! not be read or written; 3: all is done, but some payments come back.
 
 #[allow(dead_code)] // not every call is made here
 mod desk;
 
-use desk::{Answer, Judgement, Lists, Note, Page, Prepared, Reader, Refusal, MOST_BYTES};
+use desk::{Answer, Judgement, Lists, Note, Page, Prepared, Reader, Refusal, M8_CODES, M8_RECORD, MOST_BYTES};
 use std::ffi::{OsStr, OsString};
 use std::fs::{self, File, OpenOptions};
 use std::io::{self, BufWriter, ErrorKind, Read, Stdout, Write};
@@ -67,7 +75,15 @@ const T14B: Range<usize> = 472..475;
 const Z3: Range<usize> = 5..20;
 const Z4: Range<usize> = 20..35;
 
-const USAGE: &str = "usage: example [--page 0|1] [--strict] FILE [FORWARDED NOTES], or example [--page 0|1] -";
+/// The same of an M8 record.
+const M8_DATE: Range<usize> = 3..9;
+const M8_FILE: Range<usize> = 9..14;
+const M8_AMOUNT: Range<usize> = 38..56;
+const M8_CODE: Range<usize> = 56..62;
+const M8_REFERENCE: Range<usize> = 62..97;
+
+const USAGE: &str =
+    "usage: example [--page 0|1] [--strict | --m8 M8] FILE [FORWARDED NOTES], or example [--page 0|1] -";
 
 /// The word that stands for standard input.
 const INPUT: &str = "-";
@@ -87,8 +103,8 @@ fn main() -> ExitCode {
     let words: Vec<OsString> = std::env::args_os().skip(1).collect();
     let done = understand(&words).and_then(|(way, paths)| match paths {
         [word] if word == INPUT => judge_input(way.page),
-        [file] => work_on_file(way, Path::new(file), None),
-        [file, forwarded, notes] => work_on_file(way, Path::new(file), Some(Targets::new(forwarded, notes))),
+        [file] => work_on_file(way, Path::new(file), [None, None, way.m8]),
+        [file, forwarded, notes] => work_on_file(way, Path::new(file), [Some(forwarded), Some(notes), way.m8]),
         _ => Err(USAGE.into()),
     });
     match done {
@@ -101,25 +117,27 @@ fn main() -> ExitCode {
     }
 }
 
-/// How the file is to be prepared: on which page, and whether as a whole or not at all.
+/// How the file is to be prepared: on which page, whether as a whole or not at all, and where M8 records go, if they are
+/// asked for.
 #[derive(Clone, Copy)]
-struct Way {
+struct Way<'a> {
     page: Page,
     is_strict: bool,
+    m8: Option<&'a OsStr>,
 }
 
 /// What is asked for: by the options the way, and by the other words the paths, or - alone for standard input.
-fn understand(words: &[OsString]) -> Result<(Way, &[OsString]), Failure> {
+fn understand(words: &[OsString]) -> Result<(Way<'_>, &[OsString]), Failure> {
     let (way, paths) = options(words)?;
-    match misplaced(paths) {
+    match misplaced(way, paths) {
         Some(line) => Err(joined(&[&line, &"\n", &USAGE])),
         None => Ok((way, paths)),
     }
 }
 
 /// The options, in any order and each once, and the words behind them.
-fn options(mut words: &[OsString]) -> Result<(Way, &[OsString]), Failure> {
-    let (mut page, mut is_strict) = (None, false);
+fn options(mut words: &[OsString]) -> Result<(Way<'_>, &[OsString]), Failure> {
+    let (mut page, mut is_strict, mut m8) = (None, false, None);
     loop {
         words = match words {
             [option, behind @ ..] if option == "--strict" && !is_strict => {
@@ -131,21 +149,31 @@ fn options(mut words: &[OsString]) -> Result<(Way, &[OsString]), Failure> {
                 page = Some(page_of(word)?);
                 behind
             }
-            _ => return Ok((Way { page: page.unwrap_or(Page::Iso8859_1), is_strict }, words)),
+            [option] if option == "--m8" && m8.is_none() => return Err("--m8 names no file".into()),
+            [option, word, behind @ ..] if option == "--m8" && m8.is_none() => {
+                m8 = Some(word.as_os_str());
+                behind
+            }
+            _ => return Ok((Way { page: page.unwrap_or(Page::Iso8859_1), is_strict, m8 }, words)),
         }
     }
 }
 
-/// What is wrong with a word where it stands: standard input stands alone, and behind the options there is no other.
-fn misplaced(words: &[OsString]) -> Option<Failure> {
+/// What is wrong with a word where it stands: standard input stands alone, the strict way has no M8 records, and all other
+/// words are paths, which do not begin as an option does.
+fn misplaced(way: Way, words: &[OsString]) -> Option<Failure> {
     match words {
-        [word] if word == INPUT => None,
+        [word] if word == INPUT && way.m8.is_none() => None,
         [word, ..] if word == INPUT => {
-            Some(wrong(word, "standard input can only be judged; FORWARDED and NOTES need a FILE"))
+            Some(wrong(word, "standard input can only be judged; FORWARDED, NOTES and M8 need a FILE"))
+        }
+        _ if way.is_strict && way.m8.is_some() => {
+            Some(wrong("--m8", "with --strict no payment comes back, and there are no M8 records"))
         }
         _ => {
-            let word = words.iter().find(|word| word.as_bytes().starts_with(b"-"))?;
-            Some(joined(&[word, &": no option in this place; a file of that name is ./", word]))
+            let mut paths = way.m8.into_iter().chain(words.iter().map(OsString::as_os_str));
+            let word = paths.find(|word| word.as_bytes().starts_with(b"-"))?;
+            Some(joined(&[&word, &": no option in this place; a file of that name is ./", &word]))
         }
     }
 }
@@ -164,19 +192,16 @@ fn no_page(why: OsString) -> Failure {
     joined(&[&why, &format!(": there is {} and {}", Page::Din66003, Page::Iso8859_1)])
 }
 
-/// The host's work on a file.
-fn work_on_file(way: Way, path: &Path, targets: Option<Targets>) -> Result<GoesOn, Failure> {
-    if let Some(targets) = &targets {
-        targets.are_new()?;
-    }
+/// The host's work on a file. The targets are those of the forwarded file, of the notes and of the M8 records.
+fn work_on_file(way: Way, path: &Path, targets: [Option<&OsStr>; 3]) -> Result<GoesOn, Failure> {
+    let targets = targets.map(|path| path.map(Target::new));
+    are_new(&targets)?;
     let file = read(path)?;
     let outgoing = match told(|out| examine(way, &file, out))? {
         Some(outgoing) => outgoing,
         None => return Ok(GoesOn::Nothing),
     };
-    if let Some(targets) = &targets {
-        targets.write(&outgoing)?;
-    }
+    write_named(&targets, &outgoing)?;
     Ok(if outgoing.returned.is_empty() { GoesOn::All } else { GoesOn::Some })
 }
 
@@ -214,11 +239,13 @@ fn told<T>(tell: impl FnOnce(&mut BufWriter<Stdout>) -> io::Result<T>) -> Result
     }
 }
 
-/// What goes on: the forwarded file, and its notes; and the list of what comes back.
+/// What goes on: the forwarded file, and its notes; the list of what comes back, and where they are asked for its M8
+/// records.
 struct Outgoing {
     forwarded: Vec<u8>,
     notes: Vec<u32>,
     returned: Vec<u32>,
+    m8: Vec<u8>,
 }
 
 /// Judges, prepares and restores the file in memory, and tells what it finds. What goes on is there where the file is not
@@ -234,7 +261,7 @@ fn examine(way: Way, file: &[u8], out: &mut impl Write) -> io::Result<Option<Out
         Ok(judgement) => tell_sound(page, judgement, out)?,
         Err(_) => tell_sorted(page, file, &outgoing, sent, out)?,
     }
-    let Outgoing { forwarded, notes, returned } = &outgoing;
+    let Outgoing { forwarded, notes, returned, .. } = &outgoing;
     tell_changes(forwarded, notes, out)?;
 
     let mut restored = vec![0; forwarded.len()];
@@ -246,7 +273,39 @@ fn examine(way: Way, file: &[u8], out: &mut impl Write) -> io::Result<Option<Out
         (true, false) => "restored: the very kept file",
     };
     writeln!(out, "{line}")?;
-    Ok(is_restored.then_some(outgoing))
+    match way.m8 {
+        _ if !is_restored => Ok(None),
+        None => Ok(Some(outgoing)),
+        Some(_) => Ok(m8_records(page, file, returned, out)?.map(|m8| Outgoing { m8, ..outgoing })),
+    }
+}
+
+/// The M8 records, which it tells. There has to be one for each payment that comes back.
+fn m8_records(page: Page, file: &[u8], returned: &[u32], out: &mut impl Write) -> io::Result<Option<Vec<u8>>> {
+    let mut records = vec![0; returned.len() * M8_RECORD];
+    if desk::m8(page, file, LISTS, &M8_CODES, &mut records) != Ok(returned.len()) {
+        writeln!(out, "not an M8 record for each payment that comes back")?;
+        return Ok(None);
+    }
+    for (&number, record) in returned.iter().zip(records.chunks(M8_RECORD)) {
+        tell_m8(Refusal::of_returned(number).record, record, out)?;
+    }
+    if returned.is_empty() {
+        writeln!(out, "no M8 records, and no file of them: no payment comes back")?;
+    }
+    Ok(Some(records))
+}
+
+/// Tells the M8 record of a payment: number and date of the file, amount, reference and code.
+fn tell_m8(payment_record: u64, record: &[u8], out: &mut impl Write) -> io::Result<()> {
+    let text = |place: Range<usize>| text(Page::Iso8859_1, &record[place]); // replaced: it reads alike on both pages
+    let (date, file, reference, code) = (text(M8_DATE), text(M8_FILE), text(M8_REFERENCE), text(M8_CODE));
+    let date = format!("20{}-{}-{}", &date[..2], &date[2..4], &date[4..]);
+    let cents = number(&record[M8_AMOUNT]);
+    let amount = format!("{},{:02} euros", cents / 100, cents % 100);
+    let meaning = desk::m8_meaning(code.as_bytes()).unwrap_or("?");
+    writeln!(out, "M8 of record {payment_record}: file {file} of {date}, {amount}, reference \"{reference}\"")?;
+    writeln!(out, "    code {code}: {meaning}")
 }
 
 /// Prepares the file by the way that is asked for. What the strict way sends is the whole file, as the judge counts it.
@@ -263,7 +322,7 @@ fn prepare(way: Way, file: &[u8], judged: Result<Judgement, Refusal>) -> Result<
     forwarded.truncate(sent.bytes());
     notes.truncate(sent.notes);
     returned.truncate(sent.returned);
-    Ok((Outgoing { forwarded, notes, returned }, sent))
+    Ok((Outgoing { forwarded, notes, returned, m8: Vec::new() }, sent))
 }
 
 /// Puts the kept file together: the records of the file that are not in the list, and Z with the figures.
@@ -411,48 +470,62 @@ fn read(path: &Path) -> Result<Vec<u8>, Failure> {
     Ok(bytes)
 }
 
-/// Where the forwarded file and the notes go, and the new files that become them.
-struct Targets {
-    forwarded: PathBuf,
-    notes: PathBuf,
-    new_forwarded: PathBuf,
-    new_notes: PathBuf,
+/// Where something is to be written, and the new file that becomes it.
+struct Target {
+    path: PathBuf,
+    new_path: PathBuf,
 }
 
-impl Targets {
-    fn new(forwarded: &OsStr, notes: &OsStr) -> Targets {
-        let new_name = |path: &OsStr| PathBuf::from(joined(&[&path, &".new"]));
-        Targets {
-            forwarded: forwarded.into(),
-            notes: notes.into(),
-            new_forwarded: new_name(forwarded),
-            new_notes: new_name(notes),
-        }
+impl Target {
+    fn new(path: &OsStr) -> Target {
+        Target { path: path.into(), new_path: joined(&[&path, &".new"]).into() }
     }
+}
 
-    /// Asks that all that will be written are new files, and different ones.
-    fn are_new(&self) -> Result<(), Failure> {
-        let mut before: Vec<(&Path, Location)> = Vec::new();
-        for path in [&self.forwarded, &self.notes, &self.new_forwarded, &self.new_notes] {
-            is_free(path)?;
-            let location = locate(path)?;
-            if let Some((other, _)) = before.iter().find(|(_, found)| *found == location) {
-                return Err(joined(&[other, &" and ", path, &" are the same file"]));
-            }
-            before.push((path, location));
+/// Asks that all that will be written are new files, and different ones.
+fn are_new(targets: &[Option<Target>; 3]) -> Result<(), Failure> {
+    let mut before: Vec<(&Path, Location)> = Vec::new();
+    let named = || targets.iter().flatten();
+    for path in named().map(|target| &target.path).chain(named().map(|target| &target.new_path)) {
+        is_free(path)?;
+        let location = locate(path)?;
+        if let Some((other, _)) = before.iter().find(|(_, found)| *found == location) {
+            return Err(joined(&[other, &" and ", path, &" are the same file"]));
         }
-        Ok(())
+        before.push((path, location));
     }
+    Ok(())
+}
 
-    /// Writes the forwarded file and its notes: both, or none.
-    fn write(&self, outgoing: &Outgoing) -> Result<(), Failure> {
-        let notes: Vec<u8> = outgoing.notes.iter().flat_map(|note| note.to_le_bytes()).collect();
-        write_new(&self.new_notes, &notes)?;
-        write_new(&self.new_forwarded, &outgoing.forwarded)
-            .map_err(|failure| removed(&self.new_notes, failure))?;
-        put_in_place(&self.new_notes, &self.notes).map_err(|failure| removed(&self.new_forwarded, failure))?;
-        put_in_place(&self.new_forwarded, &self.forwarded).map_err(|failure| removed(&self.notes, failure))
+/// Writes what is named: M8 only where payments come back, and the forwarded file last.
+fn write_named(targets: &[Option<Target>; 3], outgoing: &Outgoing) -> Result<(), Failure> {
+    let [forwarded, notes, m8] = targets;
+    let note_bytes: Vec<u8> = outgoing.notes.iter().flat_map(|note| note.to_le_bytes()).collect();
+    let mut files: Vec<(&Target, &[u8])> = Vec::new();
+    files.extend(notes.iter().map(|target| (target, &note_bytes[..])));
+    files.extend(m8.iter().filter(|_| !outgoing.m8.is_empty()).map(|target| (target, &outgoing.m8[..])));
+    files.extend(forwarded.iter().map(|target| (target, &outgoing.forwarded[..])));
+    write_all(&files)
+}
+
+/// Writes files, and puts them in place in their order: all, or none.
+fn write_all(files: &[(&Target, &[u8])]) -> Result<(), Failure> {
+    let mut made = Vec::new();
+    let done = make_all(files, &mut made);
+    done.map_err(|failure| made.into_iter().fold(failure, |failure, path| removed(path, failure)))
+}
+
+/// The same, up to what fails. What it has made is told.
+fn make_all<'a>(files: &[(&'a Target, &[u8])], made: &mut Vec<&'a Path>) -> Result<(), Failure> {
+    for (target, bytes) in files {
+        write_new(&target.new_path, bytes)?;
+        made.push(&target.new_path);
     }
+    for (i, (target, _)) in files.iter().enumerate() {
+        fs::rename(&target.new_path, &target.path).map_err(|error| failed(&target.path, &error))?;
+        made[i] = &target.path;
+    }
+    Ok(())
 }
 
 /// Where a new file is to be: its directory, and its name there.
@@ -494,11 +567,6 @@ fn write_new(path: &Path, bytes: &[u8]) -> Result<(), Failure> {
     let mut file = file.map_err(|error| failed(path, &error))?;
     let written = file.write_all(bytes).and_then(|()| file.sync_all());
     written.map_err(|error| removed(path, failed(path, &error)))
-}
-
-/// Renames a complete new file to its target. Where that fails nothing of it is left.
-fn put_in_place(new_path: &Path, path: &Path) -> Result<(), Failure> {
-    fs::rename(new_path, path).map_err(|error| removed(new_path, failed(path, &error)))
 }
 
 /// The failure, with the file removed for which there is no use after it.
