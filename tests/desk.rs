@@ -4,7 +4,7 @@
 mod desk;
 
 use desk::Page::{Din66003, Iso8859_1};
-use desk::{Answer, Field, Judgement, Lists, Note, Page, Prepared, Reader, Refusal};
+use desk::{Answer, Field, Judgement, Lists, Note, Page, Prepared, Reader, Refusal, M8_CODES, M8_RECORD};
 use std::io::{self, ErrorKind, Read};
 
 const SOUND: &[u8] = include_bytes!("../samples/sound.dtazv");
@@ -68,6 +68,37 @@ fn sorted(page: Page, file: &[u8]) -> (Prepared, Vec<u8>, Vec<u32>, Vec<u32>) {
 fn list(file: &[u8]) -> (Vec<u32>, [u64; 4]) {
     let (sent, .., returned) = sorted(Iso8859_1, file);
     (returned, [sent.kept as u64, sent.returned as u64, sent.kept_euros, sent.returned_euros])
+}
+
+/// An M8 record of a file of the samples' day, by table 15 of source document 000.
+fn m8_record(file_number: u64, cents: u64, code: &str, reference: &str) -> String {
+    let (zeros, reserve, free) = ("0000000", " ".repeat(16), ' ');
+    format!("DM8261116{file_number:05}{zeros}{reserve}{free}{cents:018}{code}{reference:35}{:27}", "")
+}
+
+/// A sound payment, and behind it one for each rule from 20 to 35, which breaks it and no lower one.
+fn every_rule() -> Vec<u8> {
+    let blank_line = " ".repeat(35);
+    let broken = [
+        (13, "USD"),
+        (25, "5"),
+        (26, "1"),
+        (650, "11"),
+        (648, "03"),
+        (650, "20"),
+        (64, "9"),
+        (53, "           BR "),
+        (207, "XX"),
+        (210, &blank_line),
+        (350, "X"),
+        (420, " "),
+        (455, "USD"),
+        (474, "5"),
+        (615, "X"),
+        (715, "X"),
+    ];
+    let changes: Vec<_> = (2..).zip(broken).map(|(record, (place, bytes))| (record, place, bytes)).collect();
+    with(&payments(17), &changes)
 }
 
 /// A sound file, the sample's first payment so many times: 120 euros and 50 cents each.
@@ -443,6 +474,105 @@ fn a_refused_prepare_changes_nothing() {
     }
     let (mut out, mut notes, mut returned) = ([7; 2816], [9; 5], [8; 2]);
     assert!(desk::prepare(Iso8859_1, RETURNED, LISTS, &mut out, &mut notes, &mut returned).is_ok());
+}
+
+/// Record 2 of the sample has an Ü in T15, and record 4 fills more of it than the first line.
+#[test]
+fn writes_an_m8_record_for_each_returned_payment() {
+    for (page, reference) in [(Iso8859_1, "ZUSCHUSS FUR 11/2026"), (Din66003, "ZUSCHUSS F R 11/2026")] {
+        let due = [
+            m8_record(3, 7975, "LW0101", reference),
+            m8_record(3, 25000, "TX0107", "PENSION NOVEMBER 2026 UND NACHZAHLU"),
+        ]
+        .concat();
+        let sent = sorted(page, RETURNED).0;
+        assert_eq!((due.len(), sent.m8_bytes()), (2 * M8_RECORD, 2 * M8_RECORD));
+        let mut out = vec![7; due.len() + 1];
+        assert_eq!(desk::m8(page, RETURNED, LISTS, &M8_CODES, &mut out), Ok(2));
+        assert_eq!(out, [due.as_bytes(), &[7]].concat());
+        let mut exact = vec![7; due.len()];
+        assert_eq!(desk::m8(page, RETURNED, LISTS, &M8_CODES, &mut exact), Ok(2));
+        assert_eq!(exact, due.as_bytes());
+    }
+}
+
+/// The third digit behind the comma is left out, and an amount of zero is zeros.
+#[test]
+fn m8_amounts() {
+    let half_cent = with(SOUND, &[(3, 458, "99999999999999999"), (4, 5, "100000000000198")]);
+    let zero = with(SOUND, &[(3, 458, "00000000000000000"), (4, 5, "000000000000199")]);
+    for (file, cents) in [(half_cent, 9_999_999_999_999_999), (zero, 0)] {
+        let mut out = [7; M8_RECORD];
+        assert_eq!(desk::m8(Iso8859_1, &file, LISTS, &M8_CODES, &mut out), Ok(1));
+        assert_eq!(out, m8_record(1, cents, "FI0103", "PENSION 11/2026").as_bytes());
+    }
+}
+
+/// With the codes of the hosts, and with a table in which no two are alike.
+#[test]
+fn m8_codes_by_rule() {
+    let file = every_rule();
+    let (sent, .., returned) = sorted(Iso8859_1, &file);
+    assert_eq!(returned, (20..=35).map(|rule| (rule - 18) * 100 + rule).collect::<Vec<_>>());
+    let own: String = (20..=35).map(|rule| format!("RULE{rule}")).collect();
+    assert!(M8_CODES.chunks(6).all(|code| desk::m8_meaning(code).is_some()));
+    assert!(own.as_bytes().chunks(6).all(|code| desk::m8_meaning(code).is_none()));
+    for codes in [&M8_CODES[..], own.as_bytes()] {
+        let codes_by_rule = codes.chunks(6).map(|code| std::str::from_utf8(code).unwrap());
+        let due: String = codes_by_rule.map(|code| m8_record(1, 12050, code, "PENSION 11/2026")).collect();
+        let mut out = vec![7; sent.m8_bytes()];
+        assert_eq!(desk::m8(Iso8859_1, &file, LISTS, codes, &mut out), Ok(16));
+        assert_eq!(std::str::from_utf8(&out), Ok(&due[..]));
+    }
+}
+
+#[test]
+fn no_m8_record_where_nothing_comes_back() {
+    for file in [SOUND, DIN, CHEQUES] {
+        let mut out = [7; M8_RECORD];
+        assert_eq!(desk::m8(Iso8859_1, file, LISTS, &M8_CODES, &mut out), Ok(0));
+        assert_eq!(out, [7; M8_RECORD]);
+        assert_eq!(desk::m8(Iso8859_1, file, LISTS, &M8_CODES, &mut []), Ok(0));
+        assert_eq!(desk::m8(Iso8859_1, file, LISTS, &M8_CODES[1..], &mut []), refused(62, 0, 0));
+    }
+}
+
+#[test]
+fn m8_of_the_longest_list() {
+    let file = with(&payments(9999), &[(1, 25, "5")]);
+    let mut out = vec![7; 9998 * M8_RECORD];
+    assert_eq!(desk::m8(Iso8859_1, &file, LISTS, &M8_CODES, &mut out), Ok(9998));
+    assert_eq!(out, m8_record(1, 12050, "TX0101", "PENSION 11/2026").repeat(9998).into_bytes());
+    assert_eq!(desk::m8(Iso8859_1, &file, LISTS, &M8_CODES, &mut out[1..]), refused(60, 0, 0));
+}
+
+/// Each breaks what comes later too: the table is too short, and there is no room.
+#[test]
+fn a_refused_m8_changes_nothing() {
+    let second = (2, 207, "XX"); // T10a, for which it would come back
+    let (no_digit, total) = ((3, 472, "X"), (4, 19, "8"));
+    let cases = [
+        (SOUND[..2815].to_vec(), (2, 4)),
+        (with(SOUND, &[(0, 177, "J"), second, no_digit, total]), (15, 0)),
+        (with(SOUND, &[second, no_digit, total]), (33, 3)),
+        (with(SOUND, &[second, total]), (42, 4)),
+        (with(SOUND, &[(1, 5, "X")]), (43, 0)),
+        (RETURNED.to_vec(), (62, 0)),
+    ];
+    for (file, (number, record)) in cases {
+        let mut out = [7; M8_RECORD];
+        assert_eq!(desk::m8(Iso8859_1, &file, LISTS, &M8_CODES[..95], &mut out), refused(number, record, 0));
+        assert_eq!(out, [7; M8_RECORD], "{number}");
+    }
+    let mut out = [7; 2 * M8_RECORD];
+    let longer = [&M8_CODES[..], b"F"].concat();
+    for codes in [&longer[..], &M8_CODES[..95], &[]] {
+        assert_eq!(desk::m8(Iso8859_1, RETURNED, LISTS, codes, &mut out), refused(62, 0, 0));
+    }
+    for room in [0, M8_RECORD, 2 * M8_RECORD - 1] {
+        assert_eq!(desk::m8(Iso8859_1, RETURNED, LISTS, &M8_CODES, &mut out[..room]), refused(60, 0, 0));
+    }
+    assert_eq!(out, [7; 2 * M8_RECORD]);
 }
 
 #[test]

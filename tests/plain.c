@@ -1,10 +1,10 @@
-/* The second opinion of the comparison, written from document 01 and requests A1, A2, A3 and A5 of document 02 alone,
-   for plainness and not for speed. The order is document 01's: records, character table, walk, rules, calls. Sentences
-   of the papers stand as comments beside what does them. */
+/* The second opinion of the comparison, written from document 01, requests A1, A2, A3, A5 and A6 of document 02 and, for
+   A6, table 15 of source document 000 alone, for plainness and not for speed. The order is document 01's: records,
+   character table, walk, rules, calls. Sentences of the papers stand as comments beside what does them. */
 #include "plain.h"
 
-/* ---- Lent memory. Only the four functions here read files, country lists and notes, or write to memory, and each of
-        them stays inside what it was given. (The taken numbers are read in is_taken alone.) ---- */
+/* ---- Lent memory. Only the four functions here read files, country lists, codes and notes, or write to memory, and
+        each of them stays inside what it was given. (The taken numbers are read in is_taken alone.) ---- */
 
 typedef struct { const uint8_t *bytes; size_t n; } lent;
 typedef struct { const uint32_t *numbers; size_t n; } lent_notes;
@@ -915,9 +915,8 @@ static lent kept_file(submission s, plain_prepared counted)
     return (lent){own_kept, end};
 }
 
-/* When only T rules are broken, those records come back and the rest goes on. */
-static plain_prepared prepare(uint32_t page, lent file, country_lists lists,
-                              room out, number_room notes, number_room list)
+/* Counts and euros, kept and returned, of a file that is not refused up to 43. */
+static plain_prepared sorted(uint32_t page, lent file, country_lists lists)
 {
     /* Any other page number is 7, before every other number. */
     if (!page_exists(page))
@@ -930,6 +929,17 @@ static plain_prepared prepare(uint32_t page, lent file, country_lists lists,
     /* then 43, record 0, when every T record would be returned; */
     if (answer.kept == 0)
         return (plain_prepared){.number = 43};
+    return answer;
+}
+
+/* When only T rules are broken, those records come back and the rest goes on. */
+static plain_prepared prepare(uint32_t page, lent file, country_lists lists,
+                              room out, number_room notes, number_room list)
+{
+    plain_prepared answer = sorted(page, file, lists);
+    if (answer.number != 0)
+        return answer;
+    submission s = {page, file, answer.kept + answer.returned, lists};
     /* then 60 and 61, measured on the kept file; */
     lent kept = kept_file(s, answer);
     uint64_t number = too_little_room(page, kept, answer.kept, out, notes);
@@ -951,6 +961,107 @@ plain_prepared plain_prepare(uint32_t page, const uint8_t *file, size_t n,
 {
     return prepare(page, (lent){file, n}, lists_of(transfer, nt, cheque, nc), (room){out, out_n},
                    (number_room){notes, notes_n}, (number_room){returned, returned_n});
+}
+
+/* ---- M8 records for the returned payments ---- */
+
+/* one record of 124 bytes by source document 000, table 15 */
+enum { M8_LENGTH = 124 };
+_Static_assert(M8_LENGTH == 1 + 2 + 6 + 5 + 7 + 16 + 1 + 18 + 6 + 35 + 27, "the fields of table 15");
+
+/* The codes stand in a table lent by the caller, six bytes for each rule from 20 to 35 in order. */
+enum { CODE_LENGTH = 6, FIRST_CODE = 20, LAST_CODE = 35, CODES_LENGTH = CODE_LENGTH * (LAST_CODE - FIRST_CODE + 1) };
+_Static_assert(CODES_LENGTH == 96, "the code table");
+
+/* Each of the next four writes at a place of the output and answers the place behind what it wrote. */
+static size_t write_text(room out, size_t place, const char *text)
+{
+    for (size_t i = 0; text[i] != '\0'; i++, place++)
+        put(out, place, (uint8_t)text[i]);
+    return place;
+}
+
+static size_t write_times(room out, size_t place, size_t times, uint8_t byte)
+{
+    for (size_t i = 0; i < times; i++)
+        put(out, place + i, byte);
+    return place + times;
+}
+
+static size_t write_field(room out, size_t place, rec r, stretch s)
+{
+    for (size_t offset = s.first; offset <= s.last; offset++)
+        put(out, place + offset - s.first, byte_of(r, offset));
+    return place + width(s);
+}
+
+static size_t write_replaced(room out, size_t place, uint32_t page, rec r, stretch s)
+{
+    for (size_t offset = s.first; offset <= s.last; offset++)
+        put(out, place + offset - s.first, replaced(page, byte_of(r, offset)));
+    return place + width(s);
+}
+
+/* The record for a returned payment, field behind field as in table 15; the answer is the place behind it. */
+static size_t write_m8(submission s, uint64_t record, lent codes, room out, size_t place)
+{
+    rec q = numbered(s.file, 0), t = numbered(s.file, record);
+    rec code = {codes, CODE_LENGTH * (size_t)(first_broken(s, record) - FIRST_CODE)};
+    /* DM8-1: D */
+    place = write_text(out, place, "D");
+    /* DM8-2: M8 */
+    place = write_text(out, place, "M8");
+    /* DM8-3: Q6 */
+    place = write_field(out, place, q, Q6);
+    /* DM8-4: three zeros and Q7 */
+    place = write_times(out, place, 3, '0');
+    place = write_field(out, place, q, Q7);
+    /* DM8-5: seven zeros; DM8-6: 16 spaces; DM8-7: a space */
+    place = write_times(out, place, 7, '0');
+    place = write_times(out, place, 16, ' ');
+    place = write_times(out, place, 1, ' ');
+    /* DM8-8: two zeros, T14a and two digits of T14b */
+    place = write_times(out, place, 2, '0');
+    place = write_field(out, place, t, T14a);
+    place = write_field(out, place, t, part(T14b, 0, 1));
+    /* DM8-9: a six-byte code */
+    place = write_field(out, place, code, (stretch){0, CODE_LENGTH - 1});
+    /* DM8-10: as customer reference the first line of T15 after replacement; DM8-11: 27 spaces */
+    place = write_replaced(out, place, s.page, t, line(T15, 1));
+    return write_times(out, place, 27, ' ');
+}
+
+/* For each returned payment, in order, one record. Bytes of the output after the last record keep their value. */
+static void write_returned(submission s, lent codes, room out)
+{
+    size_t end = 0;
+    for (uint64_t record = 1; record <= s.payments; record++)
+        if (first_broken(s, record) != 0)
+            end = write_m8(s, record, codes, out, end);
+}
+
+static plain_returns m8(uint32_t page, lent file, country_lists lists, lent codes, room out)
+{
+    /* Refusals: A5's numbers up to 43 first, */
+    plain_prepared sorting = sorted(page, file, lists);
+    if (sorting.number != 0)
+        return (plain_returns){.number = sorting.number, .record = sorting.record};
+    /* then 62 when the code table is not 96 bytes, */
+    if (codes.n != CODES_LENGTH)
+        return (plain_returns){.number = 62};
+    /* then 60 when the output is too short, both at record 0. */
+    if (out.n < M8_LENGTH * sorting.returned)
+        return (plain_returns){.number = 60};
+    write_returned((submission){page, file, sorting.kept + sorting.returned, lists}, codes, out);
+    /* The answer gives how many. */
+    return (plain_returns){.number = 0, .record = 0, .count = sorting.returned};
+}
+
+plain_returns plain_m8(uint32_t page, const uint8_t *file, size_t n,
+                       const uint8_t *transfer, size_t nt, const uint8_t *cheque, size_t nc,
+                       const uint8_t *codes, size_t codes_n, uint8_t *out, size_t out_n)
+{
+    return m8(page, (lent){file, n}, lists_of(transfer, nt, cheque, nc), (lent){codes, codes_n}, (room){out, out_n});
 }
 
 /* ---- Read a file as it arrives ---- */

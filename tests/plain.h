@@ -1,10 +1,11 @@
-/* The second opinion of the comparison: the calls of document 01 in plain C, written from document 01 and requests A1,
-   A2, A3 and A5 of document 02 alone, for plainness and not for speed.
+/* The second opinion of the comparison: the calls of document 01 and of requests A3, A5 and A6 of document 02 in plain C,
+   written from document 01, requests A1, A2, A3, A5 and A6 and, for A6, table 15 of source document 000 alone, for
+   plainness and not for speed.
 
-   In every call a file or a list is lent as a pointer and its length; with length 0 the pointer is not followed.
-   transfer and cheque are the country lists, two bytes a country, a lone last byte ignored. Memory lent for writing
-   (out, notes, returned) must not overlap anything else that is lent. A refused call writes nothing to it. Prepare and
-   restore work in memory of their own that they hold once: not for two threads at a time.
+   In every call a file, a list or a table of codes is lent as a pointer and its length; with length 0 the pointer is not
+   followed. transfer and cheque are the country lists, two bytes a country, a lone last byte ignored. Memory lent for
+   writing (out, notes, returned) must not overlap anything else that is lent. A refused call writes nothing to it.
+   Prepare and restore work in memory of their own that they hold once: not for two threads at a time.
 
    page is the code page: 0 for DIN 66003, 1 for ISO 8859-1. Any other is 7, before every other number; all other
    numbers of the answer are then 0. */
@@ -20,6 +21,7 @@ typedef struct { uint64_t number, record, at, payments, euros, cents, changes; }
 typedef struct { uint64_t number, record, notes; } plain_strict;
 typedef struct { uint64_t number, record, notes, kept, returned, kept_euros, returned_euros; } plain_prepared;
 typedef struct { uint64_t number, record; } plain_restored;
+typedef struct { uint64_t number, record, count; } plain_returns;
 typedef struct { uint64_t start, length; } plain_part;   /* length 0: no such field; then start is 0 too */
 
 /* Judge, as called without taken numbers, on page 0: record * 100 + number. */
@@ -66,6 +68,15 @@ plain_prepared plain_prepare(uint32_t page, const uint8_t *file, size_t n,
                              const uint8_t *transfer, size_t nt, const uint8_t *cheque, size_t nc,
                              uint8_t *out, size_t out_n, uint32_t *notes, size_t notes_n,
                              uint32_t *returned, size_t returned_n);
+
+/* M8 records for the payments that the default way of prepare returns, 124 bytes each, in order, by table 15 of source
+   document 000. codes has six bytes for each rule from 20 to 35, in order. The numbers of the default way up to 43 first,
+   7 before all of them; then 62 where codes is not 96 bytes, also where nothing is returned, and 60 where out is too
+   short, both at record 0. If 0, out begins with the records and the rest is left as it was. The answer's count is their
+   number, 0 when refused. */
+plain_returns plain_m8(uint32_t page, const uint8_t *file, size_t n,
+                       const uint8_t *transfer, size_t nt, const uint8_t *cheque, size_t nc,
+                       const uint8_t *codes, size_t codes_n, uint8_t *out, size_t out_n);
 
 /* Restore, which stays strict: 7, then 60, then 70; the record is always 0. If 0, out begins with the original, of the
    default way the kept file; the rest is left as it was. All lent notes count. */

@@ -20,7 +20,7 @@ fn readme() -> HashMap<u64, &'static str> {
 #[test]
 fn words() {
     let readme = readme();
-    assert_eq!(readme.len(), 38);
+    assert_eq!(readme.len(), 39);
     for number in 0..=100 {
         let words = readme.get(&number).copied().unwrap_or("no rule of the desk");
         assert_eq!(Refusal { number, record: 0, at: 0 }.words(), words, "{number}");
@@ -92,15 +92,16 @@ fn lines() {
         (0, 0, 0, "number 0: no rule of the desk"),
         (1, 0, 0, "rule 1 at record 0: file longer than 7,679,744 bytes (9,999 payments)"),
         (5, 4, 0, "rule 5 at record 4: bytes after Z"),
-        (7, 0, 0, "number 7: judge, prepare, restore: code page neither 0 nor 1"),
+        (7, 0, 0, "number 7: judge, prepare, M8, restore: code page neither 0 nor 1"),
         (15, 0, 177, "rule 15 at record 0, Q9, column 178: Q9 is not N"),
         (15, 0, 0, "rule 15 at record 0: Q9 is not N"),
         (32, 212, 455, "rule 32 at record 212, T13, columns 456 to 458: T13 not EUR"),
         (41, 9, 20, "rule 41 at record 9, Z4, columns 21 to 35: Z4 is not the number of T records"),
-        (43, 0, 0, "number 43: prepare: every payment would be returned"),
+        (43, 0, 0, "number 43: prepare, M8: every payment would be returned"),
         (50, 0, 0, "number 50: judge: the file number (Q4, Q6, Q7) is a taken one"),
-        (60, 0, 0, "number 60: prepare, restore: output room shorter than the file that goes on or is restored"),
+        (60, 0, 0, "number 60: prepare, M8, restore: output room shorter than the file that goes on or is restored, or than the M8 records"),
         (61, 0, 0, "number 61: prepare: more changes in the file that goes on than note places"),
+        (62, 0, 0, "number 62: M8: the code table is not 96 bytes"),
         (63, 0, 0, "number 63: prepare: returned list has fewer places than returned payments"),
         (70, 0, 0, "number 70: restore: no sound file yields this pair"),
     ];

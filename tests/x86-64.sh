@@ -3,11 +3,11 @@
 kit=$(dirname "$(dirname "$(readlink -f "$(command -v rt)")")")
 flags="-O3 -std=c11 -Wall -Wextra -Werror -Ihosts/c"
 
-# What a command says is shown only where it fails.
+# What a command says is shown only where it fails. The scripts may run side by side: one such command at a time.
 quietly() {
     mkdir -p target/tests
-    if ! "$@" >target/tests/quiet.log 2>&1; then
-        tail -n 30 target/tests/quiet.log >&2
+    if ! (flock 9 && "$@") >"target/tests/quiet-$$.log" 2>&1 9>target/tests/quiet.lock; then
+        tail -n 30 "target/tests/quiet-$$.log" >&2
         echo "$* failed" >&2
         return 1
     fi

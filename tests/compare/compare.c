@@ -2,7 +2,7 @@
    the papers ask for.
 
    compare [--seed N] [--calls N]
-       The fixed part, some 4.1 million calls; then random files, until N calls more are made.
+       The fixed part, some 4.3 million calls; then random files, until N calls more are made.
    compare --seconds N [--seed N]
        Random files alone, for that many seconds.
    compare --replay FILE
@@ -39,6 +39,7 @@ static void fixed_part(void)
     use_annexes();
     each_code_page();
     each_sorting();
+    each_m8();
     each_arrival();
     each_length();
     each_amount();

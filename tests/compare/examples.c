@@ -1,7 +1,7 @@
 /* Send the good ones, request A5 of document 02: examples, with their answers worked out by hand. */
 #include <string.h>
 
-#include "drafts.h"
+#include "filed.h"
 #include "suites.h"
 
 /* Three payments of 120,50, 79,75 and 1000,00, the last one a cheque; the second payee is M&M STUDIO. */
@@ -94,8 +94,8 @@ static void lend_example(const example *e)
     lend_draft();
 }
 
-/* The judge, the call for payroll hosts and the strict way tell what they told before; the default way in rooms that are
-   just large enough. */
+/* The judge, the call for payroll hosts and the strict way tell what they told before; the default way and M8 in rooms that
+   are just large enough. */
 static void run_example(const example *e)
 {
     uint64_t number = e->judged % 100, record = e->judged / 100;
@@ -110,6 +110,7 @@ static void run_example(const example *e)
     due_notes(&e->note, e->answer[2]);
     due_returned(e->returned, e->answer[4]);
     prepare(e->answer[0] ? draft_n : file_bytes(e->answer[3]), e->answer[2], e->answer[4]);
+    file_returned(0, (verdict){e->answer[0], e->answer[1], 0}, e->returned, e->answer[4]);
 }
 
 /* 7 comes before everything. */
@@ -123,6 +124,7 @@ static void run_example_on_no_page(const example *e)
     prepare(room, places, list);
     due(7, 0, 0);
     prepare_strict(room, places);
+    file_returned((size_t)(e - examples), (verdict){7, 0, 0}, e->returned, e->answer[4]);
     use_page(page);
 }
 
@@ -140,6 +142,7 @@ static void edges_of_the_sum(void)
             due_returned((const uint32_t[]){1132}, 1);
         }
         prepare(file_bytes(10), 0, 1);
+        file_returned(0, more ? (verdict){42, 12, 0} : (verdict){0, 0, 0}, (const uint32_t[]){1132}, 1);
     }
 }
 
@@ -157,8 +160,10 @@ static void payees_of_each_page(void)
     else
         due(0, 0, 1, 2, 1, 1079, 120);
     due_notes((const uint32_t[]){466 * 256 + (code_page() == 0 ? 0x5B : 0xC4)}, 1);
-    due_returned((const uint32_t[]){code_page() == 0 ? 229 : 129}, 1);
+    const uint32_t returned[] = {code_page() == 0 ? 229 : 129};
+    due_returned(returned, 1);
     prepare(file_bytes(2), 1, 1);
+    file_returned(0, (verdict){0, 0, 0}, returned, 1);
 }
 
 /* By the first bytes of two lists; a lone last one is ignored. */
@@ -168,6 +173,7 @@ static void by_lists(size_t transfers_n, size_t cheques_n, const uint64_t answer
     due_numbers(answer, 7);
     due_returned(returned, answer[4]);
     prepare(draft_n, 1, 3);
+    file_returned(0, (verdict){answer[0], 0, 0}, returned, answer[4]);
 }
 
 static void each_lent_list(void)

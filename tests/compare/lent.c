@@ -21,7 +21,7 @@ enum { ANSWER_DUE = LENT, OUTPUT_DUE, NOTES_DUE, RETURNED_DUE, STRETCHES };
 typedef struct { uint8_t *write, *lent; } area;     /* both are the end of the memory */
 
 static const size_t most_bytes[STRETCHES] = {
-    MOST_FED, SPARE, SPARE, SPARE, 4 * MOST_NOTES + SPARE, SPARE, SPARE, SPARE, SPARE,
+    MOST_FED, SPARE, SPARE, SPARE, 4 * MOST_NOTES + SPARE, SPARE, SPARE, SPARE, SPARE, SPARE,
     SPARE, MOST_FILE + SPARE, 4 * MOST_NOTES + SPARE, SPARE
 };
 static area stretch[STRETCHES], cut, output[SIDES], note_places[SIDES], list_places[SIDES];
@@ -54,17 +54,18 @@ static area make_area(size_t bytes, bool read_only)
 /* ---- One request -------------------------------------------------------------------------- */
 
 static const char *const call_name[CALLS] = {
-    "judge", "judge_full", "prepare", "prepare_strict", "restore", "show", "read_in_steps"
+    "judge", "judge_full", "prepare", "prepare_strict", "restore", "show", "read_in_steps", "m8"
 };
 static const char *const stretch_name[STRETCHES] = {
-    "file", "transfer", "cheque", "taken", "notes", "other-transfer", "other-cheque", "other-taken", "steps",
+    "file", "transfer", "cheque", "taken", "notes", "other-transfer", "other-cheque", "other-taken", "steps", "codes",
     "answer-due", "output-due", "notes-due", "returned-due"
 };
 enum { NUMBERS = 7 };
 static const char *const answer_name[CALLS][NUMBERS] = {
     {"code"}, {"number", "record", "at", "payments", "euros", "cents"},
     {"number", "record", "notes", "kept", "returned", "euros kept", "euros returned"}, {"number", "record", "notes"},
-    {"number", "record"}, {"start", "length"}, {"number", "record", "at", "payments", "euros", "cents", "changes"}
+    {"number", "record"}, {"start", "length"}, {"number", "record", "at", "payments", "euros", "cents", "changes"},
+    {"number", "record", "count", "euros of the records", "cents of the records"}
 };
 
 typedef struct {
@@ -139,6 +140,17 @@ static const plain_step *steps_for_both(void)
     return steps;
 }
 
+/* The numbers that are added to the answer on M8 records; what was counted beyond the room is no record. */
+static void add_amount_of_records(int side)
+{
+    uint64_t *a = answer[side];
+    if (a[0] || a[2] > now.room / M8_BYTES)
+        return;
+    amount sum = amount_of_records(out_of(side), a[2]);
+    a[3] = sum.euros;
+    a[4] = sum.cents;
+}
+
 typedef uint64_t desk_code, plain_code;
 
 #define ASK(name, shape, ...)                                                                \
@@ -179,6 +191,10 @@ static void ask(int side)
     case READ:
         ASK(read_in_steps, answer, now.page, file, steps_for_both(), now.size[STEPS] / sizeof(step));
         break;
+    case M8:
+        ASK(m8, returns, now.page, file, n, transfer, nt, cheque, nc, lent(CODES), now.size[CODES], out_of(side), now.room);
+        add_amount_of_records(side);
+        break;
     }
     running = -1;
 }
@@ -207,7 +223,8 @@ static void print_answer(int side)
 static void write_stretch(FILE *f, int which)
 {
     const bool lists = now.call != SHOW, reading = now.call == READ;
-    const bool used[LENT] = {true, lists, lists, judges_fully(), now.call == RESTORE, reading, reading, reading, reading};
+    const bool used[LENT] = {true, lists, lists, judges_fully(), now.call == RESTORE, reading, reading, reading, reading,
+        now.call == M8};
     size_t n = which >= LENT || used[which] ? now.size[which] : 0;
     const uint8_t *bytes = lent(which);
     fprintf(f, "%s %zu\n", stretch_name[which], n);
@@ -334,19 +351,48 @@ static void check_sorted(int side)
         differ("output or notes are not those of the kept file");
 }
 
+/* Here too it is for the suites to ask which payments come back; but each record is that of some payment, by some rule of 20
+   to 35, in the order of the file. */
+static void check_filed(int side)
+{
+    const uint64_t *a = answer[side];
+    const uint8_t *file = lent(FILE_IN);
+    size_t n = now.size[FILE_IN], payment = 0;
+    if (a[0] && a[2])
+        differ("records counted though refused");
+    if (!may_tell_filed(file, n, now.size[CODES], now.room, a[0], a[1]))
+        differ("this number and record are not told of such a file, table and room");
+    if (a[0])
+        return;
+    if (a[2] >= payments_of(n))
+        differ("no payment is kept");
+    for (const uint8_t *r = out_of(side); r < out_of(side) + M8_BYTES * a[2]; r += M8_BYTES) {
+        payment = m8_behind(now.page, file, n, payment, lent(CODES), r);
+        if (payment == 0)
+            differ("a record is that of no payment, or not in their order");
+    }
+}
+
+/* The bytes that a call that is not refused writes to its output. */
+static size_t bytes_sent(const uint64_t *a)
+{
+    return now.call == M8 ? M8_BYTES * a[2] : now.call == PREPARE ? file_bytes(a[3]) : now.size[FILE_IN];
+}
+
 /* What holds of every answer, whatever was lent. */
 static void check_answer(int side)
 {
     const uint64_t *a = answer[side];
-    size_t sent_n = now.call == PREPARE ? file_bytes(a[3]) : now.size[FILE_IN];
     if (names_page() && (a[0] == 7) != (now.page >= PAGES))
         differ("7 is told exactly where there is no such page");
-    if (prepares() || now.call == RESTORE)
-        check_kept(side, "output bytes", out_of(side), now.room, a[0] ? 0 : sent_n);
+    if (prepares() || now.call == RESTORE || now.call == M8)
+        check_kept(side, "output bytes", out_of(side), now.room, a[0] ? 0 : bytes_sent(a));
     if (prepares())
         check_notes(side);
     if (now.call == PREPARE)
         check_sorted(side);
+    if (now.call == M8)
+        check_filed(side);
     if (names_page() && (a[0] == 0 || a[0] == 7 || a[0] >= 43) && a[1] != 0)
         differ("record 0 expected");
     if (judges_fully() && a[0] && (a[3] || a[4] || a[5] || a[6]))
@@ -372,6 +418,29 @@ static void check_due_bytes(int side, const char *name, int which, const void *h
     differ(text);
 }
 
+/* The M8 records of the payments that are to come back, field by field of table 15. */
+static void check_due_records(int side)
+{
+    static char text[120];
+    uint8_t wanted[M8_BYTES];
+    const uint32_t *returned = lent(RETURNED_DUE);
+    size_t n = now.size[RETURNED_DUE] / 4;
+    if (answer[side][0] || answer[side][2] != n || now.room / M8_BYTES < n)
+        differ("a record for each returned payment is due by the paper");
+    for (size_t i = 0; i < n; i++) {
+        const uint8_t *record = out_of(side) + M8_BYTES * i;
+        m8_of(now.page, lent(FILE_IN), returned[i], lent(CODES), wanted);
+        size_t at = first_difference(record, wanted, M8_BYTES), field = 1;
+        if (at == M8_BYTES)
+            continue;
+        while ((size_t)m8_field[field].last < at)
+            field++;
+        snprintf(text, sizeof text, "of %s, hex %02X is due by the paper at byte %zu of M8 record %zu, in DM8-%zu",
+                 side_name(side), wanted[at], at, i + 1, field);
+        differ(text);
+    }
+}
+
 static void check_due(int side)
 {
     static char text[120];
@@ -384,7 +453,10 @@ static void check_due(int side)
         }
     check_due_bytes(side, "output", OUTPUT_DUE, out_of(side), now.room);
     check_due_bytes(side, "note places", NOTES_DUE, notes_of(side), 4 * now.places);
-    check_due_bytes(side, "list places", RETURNED_DUE, list_of(side), 4 * now.list);
+    if (now.call == M8 && now.size[RETURNED_DUE])
+        check_due_records(side);
+    if (now.call != M8)
+        check_due_bytes(side, "list places", RETURNED_DUE, list_of(side), 4 * now.list);
 }
 
 /* ---- The call ----------------------------------------------------------------------------- */
@@ -437,6 +509,7 @@ const uint64_t *prepare(size_t room, size_t places, size_t list) { return call_w
 const uint64_t *prepare_strict(size_t room, size_t places) { return call_with(PREPARE_STRICT, room, places, 0, 0, 0); }
 const uint64_t *restore(size_t room) { return call_with(RESTORE, room, 0, 0, 0, 0); }
 const uint64_t *show(uint64_t record, uint64_t field) { return call_with(SHOW, 0, 0, 0, record, field); }
+const uint64_t *m8(size_t room) { return call_with(M8, room, 0, 0, 0, 0); }
 
 const uint64_t *read_in_steps(const step *steps, size_t n)
 {
@@ -453,6 +526,7 @@ const uint64_t *read_in_steps(const step *steps, size_t n)
 
 const uint8_t *output_left(void) { return out_of(DESK); }
 const uint32_t *notes_left(void) { return notes_of(DESK); }
+const uint32_t *list_left(void) { return list_of(DESK); }
 uint64_t calls_made(void) { return calls; }
 
 void open_areas(const char *cases)
@@ -542,6 +616,15 @@ static void print_steps(void)
                    s[i].other_transfer ? "other " : "", s[i].other_cheque ? "other " : "");
 }
 
+/* A code may have any bytes. */
+static void print_record(const uint8_t *record)
+{
+    printf("  filed: ");
+    for (int i = 0; i < M8_BYTES; i++)
+        putchar(record[i] >= ' ' && record[i] <= '~' ? record[i] : '?');
+    printf("\n");
+}
+
 static void print_run(int side)
 {
     fill_outputs(side);
@@ -551,6 +634,8 @@ static void print_run(int side)
         printf("  note: place %u, byte %u\n", notes_of(side)[i] / 256, notes_of(side)[i] % 256);
     for (uint64_t i = 0; now.call == PREPARE && i < answer[side][4] && i < now.list && i < 10; i++)
         printf("  returned: record %u, rule %u\n", list_of(side)[i] / 100, list_of(side)[i] % 100);
+    for (uint64_t i = 0; now.call == M8 && i < answer[side][2] && i < now.room / M8_BYTES && i < 10; i++)
+        print_record(out_of(side) + M8_BYTES * i);
 }
 
 int replay(const char *name)

@@ -11,8 +11,8 @@
 
 #include "../sample.h"
 
-enum { JUDGE, JUDGE_FULL, PREPARE, PREPARE_STRICT, RESTORE, SHOW, READ, CALLS };
-enum { FILE_IN, TRANSFER, CHEQUE_LIST, TAKEN, NOTES_IN, OTHER_TRANSFER, OTHER_CHEQUE_LIST, OTHER_TAKEN, STEPS, LENT };
+enum { JUDGE, JUDGE_FULL, PREPARE, PREPARE_STRICT, RESTORE, SHOW, READ, M8, CALLS };
+enum { FILE_IN, TRANSFER, CHEQUE_LIST, TAKEN, NOTES_IN, OTHER_TRANSFER, OTHER_CHEQUE_LIST, OTHER_TAKEN, STEPS, CODES, LENT };
 
 enum { SPARE = 1 << 18 };                           /* the longest list, in bytes */
 enum { MOST_FED = 3 * MOST_FILE };                  /* the longest file */
@@ -40,7 +40,8 @@ void use_page(uint32_t page);
 uint32_t code_page(void);
 
 /* What the paper asks of the next call, and of that one alone: the answer's first numbers, the bytes that the output
-   begins with, the notes that the note places begin with, and the returned payments that the list begins with. */
+   begins with, the notes that the note places begin with, and the returned payments that the list begins with; of M8
+   records, the payments that they are of. */
 void due_numbers(const uint64_t *numbers, size_t n);
 #define due(...) due_numbers((const uint64_t[]){__VA_ARGS__}, sizeof(const uint64_t[]){__VA_ARGS__} / 8)
 void due_output(const uint8_t *bytes, size_t n);
@@ -48,7 +49,8 @@ void due_notes(const uint32_t *notes, size_t n);
 void due_returned(const uint32_t *payments, size_t n);
 
 /* The calls. Each answers the numbers that both sides gave, seven at most, the others 0. Reading answers what the end
-   answers that is asked for last: the last step is an end. The cuts have no more bytes together than the lent file. */
+   answers that is asked for last: the last step is an end. The cuts have no more bytes together than the lent file. To what
+   M8 answers, two numbers are added here: the euros and the cents of its records. */
 const uint64_t *judge(void);
 const uint64_t *judge_full(void);
 const uint64_t *prepare(size_t room, size_t places, size_t list);   /* the default way, with so many places for payments */
@@ -56,13 +58,15 @@ const uint64_t *prepare_strict(size_t room, size_t places);         /* as in doc
 const uint64_t *restore(size_t room);
 const uint64_t *show(uint64_t record, uint64_t field);
 const uint64_t *read_in_steps(const step *steps, size_t n);
+const uint64_t *m8(size_t room);                                    /* with the codes that are lent */
 
 /* Lends a cut to the desk's reader, until the next one is lent. */
 const uint8_t *lent_cut(const uint8_t *bytes, size_t n);
 
-/* What the last prepare left, in either way: the output, and the note places. */
+/* What the last call left, a prepare of either way: the output, the note places, and of the default way the list. */
 const uint8_t *output_left(void);
 const uint32_t *notes_left(void);
+const uint32_t *list_left(void);
 
 uint64_t calls_made(void);
 

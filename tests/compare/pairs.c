@@ -41,9 +41,8 @@ void prepare_pair(bool sound)
     have = answer[0] == 0;
     if (!have)
         return;
-    notes_n = answer[2];
-    memcpy(forwarded, output_left(), draft_n);
-    memcpy(notes, notes_left(), 4 * notes_n);
+    if (!sound)
+        notes_n = forwarded_of(code_page(), draft, draft_n, forwarded, notes);
     turn_back();
 }
 

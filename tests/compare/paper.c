@@ -181,3 +181,90 @@ bool may_tell_sorted(const uint8_t *file, size_t n, uint64_t number, uint64_t re
     bool at_0 = number == 0 || number == 43 || number == 60 || number == 61 || number == 63;
     return first > count && ((at_z && record == count + 1) || (at_0 && record == 0));
 }
+
+/* ---- Request A6 ---------------------------------------------------------------------------- */
+
+const place m8_field[M8_FIELDS + 1] = {
+    {0, -1}, {0, 0}, {1, 2}, {3, 8}, {9, 13}, {14, 20}, {21, 36}, {37, 37}, {38, 55}, {56, 61}, {62, 96}, {97, 123}
+};
+
+static const uint8_t *payment_of(const uint8_t *file, size_t record) { return file + 256 + 768 * (record - 1); }
+
+/* The last digit of T14b is no cent. */
+static amount amount_of_payment(const uint8_t *t)
+{
+    return (amount){euros_of(t - 256, 1), 10 * (uint64_t)(t[472] - '0') + (uint64_t)(t[473] - '0')};
+}
+
+/* DM8-6, DM8-7 and DM8-11 are spaces. */
+void m8_of(uint32_t page, const uint8_t *file, uint32_t returned, const uint8_t *codes, uint8_t record[M8_BYTES])
+{
+    const uint8_t *t = payment_of(file, returned / 100);
+    amount a = amount_of_payment(t);
+    memset(record, ' ', M8_BYTES);
+    put(record, "DM8");
+    memcpy(record + 3, file + 163, 6);                          /* Q6 */
+    put_number(record + 9, 12, 0);                              /* DM8-4, but for Q7, and DM8-5 */
+    memcpy(record + 12, file + 169, 2);                         /* Q7 */
+    put_number(record + 38, 18, 100 * a.euros + a.cents);
+    memcpy(record + 56, codes + CODE_BYTES * (returned % 100 - 20), CODE_BYTES);
+    for (int i = 0; i < 35; i++)
+        record[62 + i] = becomes(page, t[475 + i]);             /* T15 */
+}
+
+static bool is_code(const uint8_t *codes, const uint8_t *code)
+{
+    for (size_t at = 0; at < TABLE_BYTES; at += CODE_BYTES)
+        if (memcmp(codes + at, code, CODE_BYTES) == 0)
+            return true;
+    return false;
+}
+
+size_t m8_behind(uint32_t page, const uint8_t *file, size_t n, size_t behind, const uint8_t *codes, const uint8_t *record)
+{
+    uint8_t wanted[M8_BYTES];
+    for (size_t r = behind + 1; r <= payments_of(n); r++) {
+        m8_of(page, file, (uint32_t)(100 * r + 20), codes, wanted);
+        memcpy(wanted + 56, record + 56, CODE_BYTES);
+        if (memcmp(wanted, record, M8_BYTES) == 0)
+            return is_code(codes, record + 56) ? r : 0;
+    }
+    return 0;
+}
+
+amount amount_of_payments(const uint8_t *file, const uint32_t *returned, size_t n)
+{
+    amount sum = {0, 0};
+    for (size_t i = 0; i < n; i++) {
+        amount a = amount_of_payment(payment_of(file, returned[i] / 100));
+        sum = (amount){sum.euros + a.euros, sum.cents + a.cents};
+    }
+    return sum;
+}
+
+/* DM8-8: 18 digits, of which two are cents. */
+amount amount_of_records(const uint8_t *records, size_t n)
+{
+    amount sum = {0, 0};
+    for (const uint8_t *r = records; r < records + M8_BYTES * n; r += M8_BYTES) {
+        uint64_t cents = 0;
+        for (int i = 38; i <= 55; i++)
+            cents = 10 * cents + (uint64_t)(r[i] - '0');
+        sum = (amount){sum.euros + cents / 100, sum.cents + cents % 100};
+    }
+    return sum;
+}
+
+/* A5's numbers up to 43; behind them 62, and then 60, which cannot be where there is room for all payments but one. */
+bool may_tell_filed(const uint8_t *file, size_t n, size_t codes_n, size_t room, uint64_t number, uint64_t record)
+{
+    if (number == 61 || number == 63)
+        return false;
+    if (number == 62)
+        return codes_n != TABLE_BYTES && may_tell_sorted(file, n, 0, record);
+    if ((number == 0 || number == 60) && codes_n != TABLE_BYTES)
+        return false;
+    if (number == 60 && room / M8_BYTES + 1 >= payments_of(n))
+        return false;
+    return may_tell_sorted(file, n, number, record);
+}

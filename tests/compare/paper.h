@@ -1,6 +1,6 @@
-/* What the tests themselves take from document 01 and from requests A1 to A3 and A5 of document 02: where text stands, what
-   the table makes of it, dates, lists, where a broken rule points to, what goes on where payments are returned. Both sides
-   of the comparison are held to what follows. */
+/* What the tests themselves take from document 01 and from requests A1 to A3, A5 and A6 of document 02: where text stands,
+   what the table makes of it, dates, lists, where a broken rule points to, what goes on where payments are returned, what is
+   filed of those. Both sides of the comparison are held to what follows. */
 #ifndef PAPER_H
 #define PAPER_H
 
@@ -72,5 +72,28 @@ bool non_digit_in_t14(const uint8_t *t);
 /* Whether the default way of prepare may tell this number and this record of the file: what the order of its refusals says,
    which rules its payments break being left aside. */
 bool may_tell_sorted(const uint8_t *file, size_t n, uint64_t number, uint64_t record);
+
+/* ---- Request A6 ---------------------------------------------------------------------------- */
+
+/* An M8 record: first and last offset of DM8-1 to DM8-11, table 15 of source document 000. A code for each rule of 20 to
+   35. */
+enum { M8_BYTES = 124, M8_FIELDS = 11, CODE_BYTES = 6, TABLE_BYTES = 96 };
+extern const place m8_field[M8_FIELDS + 1];
+
+/* The record that is due for a returned payment, which is named as record * 100 + rule. */
+void m8_of(uint32_t page, const uint8_t *file, uint32_t returned, const uint8_t *codes, uint8_t record[M8_BYTES]);
+
+/* Whether a record may be that of some payment of the file behind the given one, by whichever rule; the payment's number, or
+   0. */
+size_t m8_behind(uint32_t page, const uint8_t *file, size_t n, size_t behind, const uint8_t *codes, const uint8_t *record);
+
+/* Amounts, added up: whole euros, and cents, which are not carried into them. */
+typedef struct { uint64_t euros, cents; } amount;
+amount amount_of_payments(const uint8_t *file, const uint32_t *returned, size_t n);
+amount amount_of_records(const uint8_t *records, size_t n);
+
+/* Whether this number and this record may be told where M8 records are asked for with a table of codes and a room of so
+   many bytes: what the order of the refusals says, which rules the payments break being left aside. */
+bool may_tell_filed(const uint8_t *file, size_t n, size_t codes_n, size_t room, uint64_t number, uint64_t record);
 
 #endif

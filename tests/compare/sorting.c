@@ -1,5 +1,6 @@
 /* Send the good ones, request A5 of document 02: which payments come back and by which rule, what the rest goes on as, what
    refuses the whole file, and in which order that is told. */
+#include "filed.h"
 #include "submitted.h"
 #include "suites.h"
 
@@ -188,7 +189,8 @@ static void break_sevenths(bool sevenths)
             break_payment(r, 20 + (unsigned)(r + 4) % 16);
 }
 
-/* Of 9,999 payments each seventh comes back: 1428 of them, and 7 + 14 + .. + 9996 = 7,142,142. */
+/* Of 9,999 payments each seventh comes back: 1428 of them, and 7 + 14 + .. + 9996 = 7,142,142. Their cents are those of all
+   hundred numbers, 4,950, fourteen times, and of 7, 14, .. 98, 5, 12, .. 96, which are 1,442. */
 static void one_in_seven_returned(void)
 {
     submit_many(MOST_PAYMENTS);
@@ -199,6 +201,10 @@ static void one_in_seven_returned(void)
     lend_submitted();
     due(0, 0, 4, 8571, 1428, 42852858, 7142142);
     prepare(file_bytes(8571), 4, 1428);
+    lend_codes(ODD, TABLE_BYTES);
+    due(0, 0, 1428, 7142142, 70742);
+    m8(1428 * M8_BYTES);
+    in_room(0);
     in_room(1);
     in_room(4);
     in_room(16);
@@ -223,6 +229,10 @@ static void faults_far_back(void)
     lend_submitted();
     due(0, 0, 0, 1, 9998, 5000, 49990000);
     prepare(file_bytes(1), 0, 9998);
+    lend_codes(NAMED, TABLE_BYTES);
+    due(0, 0, 9998, 49990000, 495000);
+    m8(9998 * M8_BYTES);
+    in_room(0);
     in_room(1);
     record_of(5000)[715] = 'X', lowest[5000] = 35;
     lend_submitted();

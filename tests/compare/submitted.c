@@ -2,6 +2,7 @@
 
 #include <string.h>
 
+#include "filed.h"
 #include "suites.h"
 
 payment_kind kinds[MOST_PAYMENTS + 1];
@@ -132,6 +133,7 @@ void in_room(size_t way)
 {
     size_t room = about(bytes_needed(), way / 16), places = about(places_needed(), way / 4 % 4);
     prepare_in(room, places, about(list_n, way % 4));
+    file_returned(way, told, list, list_n);
 }
 
 /* ---- What goes on ---------------------------------------------------------------------------- */

@@ -1,5 +1,5 @@
 /* A draft that is submitted, what is broken in it, and what is due of it by the default way of prepare, request A5 of document
-   02. Which rules are broken is known, for they are broken here, one by one. */
+   02, and of its M8 records, request A6. Which rules are broken is known, for they are broken here, one by one. */
 #ifndef SUBMITTED_H
 #define SUBMITTED_H
 
@@ -32,7 +32,8 @@ unsigned first_rule(size_t record);
 void lend_submitted(void);
 
 /* What is lent, in one of these ways: of output, note places and list each as much as is needed, one less, none, or more.
-   Way 0 is just enough of all; then 1 is a list, 4 are note places and 16 is an output that is one short. */
+   Way 0 is just enough of all; then 1 is a list, 4 are note places and 16 is an output that is one short. Its M8 records too,
+   in the way of filed.h with that number. */
 enum { ROOMS = 64 };
 void in_room(size_t way);
 

@@ -51,8 +51,9 @@ void judge_by_turns(verdict told);                  /* every fourth time in all 
 void another_call(size_t turn, verdict told);
 void show_part(uint64_t record, uint64_t field, bool walked);       /* walked: no rule of 1 to 5 is broken */
 
-/* The lent file in both ways of prepare. What is due of the strict one is said before; its answer. Where that one tells no
-   T rule, the default way leaves the same and returns nothing; else what it returns begins with the payment that is told. */
+/* The lent file in both ways of prepare, and the M8 records of what comes back. What is due of the strict way is said before;
+   its answer. Where that one tells no T rule, the default way leaves the same and returns nothing; else what it returns
+   begins with the payment that is told. */
 const uint64_t *prepare_both_ways(size_t room, size_t places);
 
 /* cases.c: the cases that document 01 names, lists and numbers, every length, long files. */
@@ -74,6 +75,9 @@ void each_sorted_example(void);
 void each_sorting(void);
 void long_sorting(void);
 void random_sorting(void);                          /* with the annexes, on the page in use */
+
+/* m8.c: request A6, M8 records for the returned payments, on both pages; it leaves page 0 in use. */
+void each_m8(void);
 
 /* sweep.c: what people send by mistake; every byte at every place; every date, wrong totals; and every pair of
    characters in the short fields, numbers of payments. Of these the first two read text. */

@@ -1,6 +1,7 @@
 /* What is due of each call, on a draft on which the verdict is known. */
 #include <string.h>
 
+#include "filed.h"
 #include "plans.h"
 #include "suites.h"
 
@@ -78,6 +79,7 @@ const uint64_t *prepare_both_ways(size_t room, size_t places)
         due_returned((const uint32_t[]){(uint32_t)(100 * strict[1] + strict[0])}, 1);
         prepare(room, places, list);
     }
+    file_after_prepare(sorted, t_rule);
     return strict;
 }
 
