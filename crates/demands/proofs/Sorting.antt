@@ -125,6 +125,10 @@ module _ (page : ℕ) (file transfer cheque out notes list out' notes' list' : L
   list-is : list' ≡ put 0 (namedIn page file transfer cheque) list
   list-is = promise .list-is ∙ sym (on-eq list z refl)
 
+  pub list-front : take (answer .payments .returned) list' ≡ namedIn page file transfer cheque
+  list-front =
+      ap (take (answer .payments .returned)) list-is ∙ front (namedIn page file transfer cheque) list (answer .payments .returned) returned-is
+
   figures : Figures file (keptFile page file transfer cheque) answer
   unfolding keptFile
   figures =
@@ -152,9 +156,7 @@ module _ (page : ℕ) (file transfer cheque out notes list out' notes' list' : L
         payments = n;
         long = fit file n (g .fits) .long;
         listed = omega (arith, returned-is, ap length list-is, length-append (namedIn page file transfer cheque) (drop (0 + length (namedIn page file transfer cheque)) list));
-        names =
-            subst (Names page file transfer cheque n) (sym (ap (take (answer .payments .returned)) list-is ∙ front (namedIn page file transfer cheque) list (answer .payments .returned) returned-is))
-            (names page file transfer cheque n (g .fits));
+        names = subst (Names page file transfer cheque n) (sym list-front) (names page file transfer cheque n (g .fits));
         list-rest = ap (drop (answer .payments .returned)) list-is ∙ behind (namedIn page file transfer cheque) list (answer .payments .returned) returned-is;
         figures = figures;
       }

@@ -37,9 +37,9 @@ use Rattle.demands.specs.Sorting.{RefusingRule}
 use Rattle.demands.proofs.Pages.{is-page, no-page}
 use Rattle.demands.proofs.Named.{named-only, slots-at}
 use Rattle.demands.proofs.Rooms.{inRooms, by-rooms}
-use Rattle.demands.proofs.Sorting.{PlainSort, sort-plain}
+use Rattle.demands.proofs.Sorting.{list-front, PlainSort, sort-plain}
 use Rattle.demands.proofs.Due.{amounts-none}
-use Rattle.filing.specs.Filing.{OfPayment, m8s, Files, FilesTheReturned, AmountsAddUp, Carried, FiledCarried, FiledRefuses, FiledNumbers, FiledKeeps, FiledPage, FiledSettled}
+use Rattle.filing.specs.Filing.{OfPayment, m8s, Files, FilesTheReturned, FilesAsListed, AmountsAddUp, Carried, FiledCarried, FiledRefuses, FiledNumbers, FiledKeeps, FiledPage, FiledSettled}
 use Rattle.filing.proofs.Fields.{of-payment, m8s-are, sums-are, sum-cents}
 use Rattle.filing.proofs.Carried.{carried}
 
@@ -176,7 +176,7 @@ module _ (page : ℕ) (file transfer cheque codes out out' : List ℕ) (answer :
         (subst (λ (j : ℕ). OfPayment page (slotAt file 0) codes (slotAt file j) r (R (slotAt file (a .k)))) k-is
         (subst (λ (r : ℕ). OfPayment page (slotAt file 0) codes (slotAt file (a .k)) r (R (slotAt file (a .k)))) rule-is (of i a)))
 
-    files : Files page file transfer cheque codes out out' answer
+    files : Files page file codes (namedIn page file transfer cheque) out out' answer
     files =
         record {
           many = many ∙ sym (named-count rule 1 (tRecords file));
@@ -286,6 +286,12 @@ module _ (page : ℕ) (file transfer cheque codes out out' : List ℕ) (answer :
 
 pub files-the-returned : FilesTheReturned
 files-the-returned page file transfer cheque codes out out' answer promise z = files page file transfer cheque codes out out' answer promise z
+
+pub files-as-listed : FilesAsListed
+files-as-listed page file transfer cheque codes out out' answer promise z room notes list room' notes' list' prepared p sent =
+    subst (λ (names : List ℕ). Files page file codes names out out' answer)
+    (sym (list-front page file transfer cheque room notes list room' notes' list' prepared p sent))
+    (files page file transfer cheque codes out out' answer promise z)
 
 -- of prepare's answer, where its rooms are long enough
 prepared-is : (page : ℕ) (file transfer cheque room notes list room' notes' list' : List ℕ) (prepared : Sorted)

@@ -52,12 +52,12 @@ abbrev pub m8s : ℕ → List ℕ → List (List ℕ)
 m8s zero out = []
 m8s (suc n) out = take 124 out ∷ m8s n (drop 124 out)
 
--- what is left where 0 is answered
-pub record Files (page : ℕ) (file transfer cheque codes out out' : List ℕ) (answer : Filed) : Type 0 where
+-- what is left where 0 is answered, beside the names of the returned payments
+pub record Files (page : ℕ) (file codes names out out' : List ℕ) (answer : Filed) : Type 0 where
   -- "The answer gives how many."
-  pub many : answer .count ≡ length (namedIn page file transfer cheque)
-  -- "For each returned payment, in order": record i is that of the payment that A5's list names at place i
-  pub each : (i k rule : ℕ) → i < answer .count → rule < 100 → getD (namedIn page file transfer cheque) i 0 ≡ k * 100 + rule
+  pub many : answer .count ≡ length names
+  -- "For each returned payment, in order": record i is that of the payment that is named at place i
+  pub each : (i k rule : ℕ) → i < answer .count → rule < 100 → getD names i 0 ≡ k * 100 + rule
       → OfPayment page (slotAt file 0) codes (slotAt file k) rule (getD (m8s (answer .count) out') i [])
   -- "Bytes of the output after the last record keep their value."
   pub room : 124 * answer .count ≤ length out
@@ -66,7 +66,18 @@ pub record Files (page : ℕ) (file transfer cheque codes out out' : List ℕ) (
 abbrev pub FilesTheReturned : Type 0
 FilesTheReturned =
     (page : ℕ) (file transfer cheque codes out out' : List ℕ) (answer : Filed)
-    → FiledAs page file transfer cheque codes out answer out' → answer .number ≡ 0 → Files page file transfer cheque codes out out' answer
+    → FiledAs page file transfer cheque codes out answer out' → answer .number ≡ 0
+    → Files page file codes (namedIn page file transfer cheque) out out' answer
+
+-- so are they beside the very list that a prepare of the same file left, where it answers 0: its first places, as many as it
+-- says are returned
+abbrev pub FilesAsListed : Type 0
+FilesAsListed =
+    (page : ℕ) (file transfer cheque codes out out' : List ℕ) (answer : Filed)
+    → FiledAs page file transfer cheque codes out answer out' → answer .number ≡ 0
+    → (room notes list room' notes' list' : List ℕ) (prepared : Sorted)
+    → DefaultAs page file transfer cheque room notes list prepared room' notes' list' → prepared .number ≡ 0
+    → Files page file codes (take (prepared .payments .returned) list') out out' answer
 
 -- the amounts in the records add up to what prepare says is returned: its euros, and the cents of these payments
 abbrev pub AmountsAddUp : Type 0

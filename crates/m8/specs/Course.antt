@@ -88,8 +88,8 @@ module _ (rule : List ℕ → ℕ) (R : List ℕ → List ℕ) where
         go false e = omega (arith, e, long t (h .0))
 
 -- of a file's first k T records, into what was out
-abbrev pub Filing : ℕ → List ℕ → List ℕ → List ℕ → List ℕ → List ℕ → ℕ → ℕ → List ℕ → Type 0
-Filing page file transfer cheque codes out k at out' =
+abbrev pub FiledSoFar : ℕ → List ℕ → List ℕ → List ℕ → List ℕ → List ℕ → ℕ → ℕ → List ℕ → Type 0
+FiledSoFar page file transfer cheque codes out k at out' =
     Noted (ones (ruleIn page file transfer cheque) (recordIn page file transfer cheque codes) (slotsFrom file 1 k)) 0 out out' at
 
 -- of a file that fits, with n T records
@@ -116,7 +116,7 @@ module _ (page : ℕ) (file transfer cheque codes : List ℕ) (n : ℕ) (e : str
     few : length (returnedIn page file transfer cheque) ≤ 9999
     few = omega (arith, counts-add rule (tRecords file), records-count file n e, fit file n e .most)
 
-    module _ (k : ℕ) {at : ℕ} {out' : List ℕ} (h : Filing page file transfer cheque codes out k at out') where
+    module _ (k : ℕ) {at : ℕ} {out' : List ℕ} (h : FiledSoFar page file transfer cheque codes out k at out') where
       fits : k ≤ n → 0 + length (ones rule R (slotsFrom file 1 k)) ≤ length out
       fits l =
           let rest = slotsFrom file (k + 1) (n - k) in
@@ -147,7 +147,7 @@ module _ (page : ℕ) (file transfer cheque codes : List ℕ) (n : ℕ) (e : str
             }
 
         pub turn-filed : {at' : ℕ} {out'' : List ℕ} → Noted (cond (eqb first 0) [] (m8Of page (slotAt file 0) (codeOf codes first) t)) at out' out'' at'
-            → Filing page file transfer cheque codes out (k + 1) at' out''
+            → FiledSoFar page file transfer cheque codes out (k + 1) at' out''
         turn-filed {at'} {out''} w =
             let one-is = ap (λ (r : ℕ). cond (eqb r 0) [] (m8Of page (slotAt file 0) (codeOf codes r) t)) asked in
             noted-is (sym (ones-more rule R (slotsFrom file 1 k) t) ∙ ap (ones rule R) (sym (records-more file n e k)))

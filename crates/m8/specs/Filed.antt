@@ -32,14 +32,14 @@ abbrev pub filed : ℕ → Filed
 filed count = record { number = 0; rec = 0; count = count }
 
 -- "then 62 when the code table is not 96 bytes, then 60 when the output is too short"
-abbrev pub filing : ℕ → List ℕ → List ℕ → Filed
-filing count codes out =
+abbrev pub afterSorting : ℕ → List ℕ → List ℕ → Filed
+afterSorting count codes out =
     cond (eqb (length codes) 96) (cond (ltb (length out) (124 * count)) (notFiled 60 0) (filed count)) (notFiled 62 0)
 
 -- "A5's numbers up to 43 first"
 abbrev pub filedBy : Sorted → List ℕ → List ℕ → Filed
 filedBy sorted codes out =
-    cond (eqb (sorted .number) 0) (filing (sorted .payments .returned) codes out) (notFiled (sorted .number) (sorted .rec))
+    cond (eqb (sorted .number) 0) (afterSorting (sorted .payments .returned) codes out) (notFiled (sorted .number) (sorted .rec))
 
 unfoldable pub filedOf : ℕ → List ℕ → List ℕ → List ℕ → List ℕ → List ℕ → Filed
 filedOf page file transfer cheque codes out = filedBy (sortOf page file transfer cheque) codes out

@@ -22,6 +22,13 @@ pub const LENGTH: usize = 124;
 
 pub const CODES: usize = 96;
 
+// The bytes of a code, the rule whose code is the first, and the bytes of a line.
+const CODE: usize = 6;
+
+const FIRST: usize = 20;
+
+const LINE: usize = 35;
+
 // How many records there are; or the number of a refusal, its record, and 0.
 #[repr(C)]
 pub struct Filed {
@@ -91,7 +98,7 @@ fn one_record(page: u32, q: &[u8], t: &[u8], code: &[u8], out: &mut [u8], at: us
     let mut end = heading(q, out, at);
     end = amount(t, out, end);
     end = append(code, out, end);
-    let behind = end + 35;
+    let behind = end + LINE;
     reference(page, t, &mut out[end..behind]);
     append(b"                           ", out, behind)
 }
@@ -112,8 +119,8 @@ fn payment(
     if rule == 0 {
         return at;
     }
-    let from = 6 * (rule - 20);
-    one_record(page, q, t, &codes[from..from + 6], out, at)
+    let from = CODE * (rule - FIRST);
+    one_record(page, q, t, &codes[from..from + CODE], out, at)
 }
 
 // The records of the returned ones of a file's n payments.

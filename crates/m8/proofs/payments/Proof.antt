@@ -13,12 +13,12 @@ use Rattle.forwarding.specs.Noted.{noted-none, noted-is}
 use Rattle.sorting.specs.Kept.{firstOf, ruleIn}
 use Rattle.sorting.specs.Frame.{fit, found, q-found, t-found}
 use Rattle.m8.specs.Record.{m8Of, codeOf}
-use Rattle.m8.specs.Course.{Filing, same-room, turn-asked, turn-filed, turns-end}
+use Rattle.m8.specs.Course.{FiledSoFar, same-room, turn-asked, turn-filed, turns-end}
 use Rattle.m8.proofs.payments.Statement.{statement}
 use Rattle.m8.proofs.payments.Tie as tie
 
 abbrev Inv-loop : tie.InvT-loop
-Inv-loop page file n transfer cheque codes out₀ q key at₀ k₀ out at k = (k ≤ n) × Filing page file transfer cheque codes out₀ k at out
+Inv-loop page file n transfer cheque codes out₀ q key at₀ k₀ out at k = (k ≤ n) × FiledSoFar page file transfer cheque codes out₀ k at out
 
 abbrev μ-loop : tie.MeasureT-loop
 μ-loop page file n transfer cheque codes out₀ q key at₀ k₀ out at k = n - k
