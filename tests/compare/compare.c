@@ -2,7 +2,9 @@
    the papers ask for.
 
    compare [--seed N] [--calls N]
-       The fixed part, some 4.3 million calls; then random files, until N calls more are made.
+       The suites, some 4.3 million calls; then random files, until N calls more are made.
+   compare --suite NAME
+       One suite alone.
    compare --seconds N [--seed N]
        Random files alone, for that many seconds.
    compare --replay FILE
@@ -17,38 +19,52 @@
 #include "drafts.h"
 #include "suites.h"
 
-/* What reads text; the rest of the fixed part stays on page 0. */
-static void on_each_page(void)
-{
-    for (uint32_t page = 0; page < PAGES; page++) {
-        use_page(page);
-        named_cases();
-        each_mistake();
-        each_room_and_pair();
-        each_rule_alone();
-        each_set_of_fields();
-        each_pair_of_rules();
-        each_byte();
-        long_files();
-    }
-    use_page(0);
-}
+/* Those that read text are run on each page; the others begin on page 0. */
+static const struct {
+    const char *name;
+    void (*run)(void);
+    uint32_t pages;
+} suites[] = {
+    {"code_pages", each_code_page, 1},
+    {"sorting", each_sorting, 1},
+    {"m8", each_m8, 1},
+    {"arrivals", each_arrival, 1},
+    {"lengths", each_length, 1},
+    {"amounts", each_amount, 1},
+    {"near_misses", near_misses, 1},
+    {"countries", each_country_list, 1},
+    {"named_cases", named_cases, PAGES},
+    {"mistakes", each_mistake, PAGES},
+    {"rooms_and_pairs", each_room_and_pair, PAGES},
+    {"rules", each_rule_alone, PAGES},
+    {"sets_of_fields", each_set_of_fields, PAGES},
+    {"pairs_of_rules", each_pair_of_rules, PAGES},
+    {"bytes", each_byte, PAGES},
+    {"long_files", long_files, PAGES},
+    {"long_arrivals", long_arrivals, 1},
+    {"long_sorting", long_sorting, 1},
+    {"sweep", sweep, 1},
+};
 
-static void fixed_part(void)
+/* The suite of that name, or all of them where it is null; whether there is one. Each makes the same calls by itself as
+   among the others. */
+static bool run_suites(const char *name, uint64_t seed)
 {
-    use_annexes();
-    each_code_page();
-    each_sorting();
-    each_m8();
-    each_arrival();
-    each_length();
-    each_amount();
-    near_misses();
-    each_country_list();
-    on_each_page();
-    long_arrivals();
-    long_sorting();
-    sweep();
+    bool found = false;
+    for (size_t i = 0; i < sizeof suites / sizeof suites[0]; i++) {
+        if (name && strcmp(name, suites[i].name) != 0)
+            continue;
+        found = true;
+        name_suite(suites[i].name);
+        begin_chance(seed);
+        for (uint32_t page = 0; page < suites[i].pages; page++) {
+            use_annexes();
+            use_page(page);
+            suites[i].run();
+        }
+    }
+    name_suite(NULL);
+    return found;
 }
 
 /* A draft whose first broken rule, if any, is not known. */
@@ -116,20 +132,22 @@ static void random_case(void)
 
 static int usage(void)
 {
-    fprintf(stderr, "usage: compare [--seed N] [--calls N] | compare --seconds N [--seed N] | compare --replay FILE\n");
+    fprintf(stderr, "usage: compare [--seed N] [--calls N] | compare --suite NAME | compare --seconds N [--seed N]"
+                    " | compare --replay FILE\n");
     return 2;
 }
 
 int main(int argc, char **argv)
 {
     char cases[80];
-    const char *kept = NULL;
+    const char *kept = NULL, *suite = NULL;
     uint64_t seed = 1, calls = 50000, seconds = 0;
     for (int i = 1; i + 1 < argc; i += 2)
         if (strcmp(argv[i], "--seed") == 0) seed = strtoull(argv[i + 1], NULL, 0);
         else if (strcmp(argv[i], "--calls") == 0) calls = strtoull(argv[i + 1], NULL, 0);
         else if (strcmp(argv[i], "--seconds") == 0) seconds = strtoull(argv[i + 1], NULL, 0);
         else if (strcmp(argv[i], "--replay") == 0) kept = argv[i + 1];
+        else if (strcmp(argv[i], "--suite") == 0) suite = argv[i + 1];
         else return usage();
     if (argc % 2 == 0)
         return usage();
@@ -137,11 +155,11 @@ int main(int argc, char **argv)
     open_areas(kept ? NULL : cases);
     if (kept)
         return replay(kept);
+    if (seconds == 0 && !run_suites(suite, seed))
+        return usage();
     begin_chance(seed);
-    if (seconds == 0)
-        fixed_part();
     time_t end = time(NULL) + (time_t)seconds;
-    calls += calls_made();
+    calls = suite ? 0 : calls + calls_made();
     while (seconds ? time(NULL) < end : calls_made() < calls)
         random_case();
     printf("%" PRIu64 " calls compared, 0 differ\n", calls_made());

@@ -103,6 +103,7 @@ void lend(int which, const void *bytes, size_t n)
 
 uint8_t *lent_file(size_t at) { return stretch[FILE_IN].write - back(FILE_IN) + at; }
 size_t lent_file_n(void) { return now.size[FILE_IN]; }
+size_t lent_codes_n(void) { return now.size[CODES]; }
 void shift_file(size_t bytes) { now.shift = bytes; }
 void use_page(uint32_t page) { now.page = page; }
 uint32_t code_page(void) { return now.page; }
@@ -252,11 +253,17 @@ static void keep_case(const char *what)
         printf("case kept; to run it again: bash tests/run --replay %s\n", name);
 }
 
+static const char *suite;
+
+void name_suite(const char *name) { suite = name; }
+
 static void differ(const char *what)
 {
     printf("difference in %s", call_name[now.call]);
     if (names_page())
         printf(", page %" PRIu32, now.page);
+    if (suite)
+        printf(", suite %s", suite);
     printf(": %s\n", what);
     print_answer(DESK);
     print_answer(PLAIN);

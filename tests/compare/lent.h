@@ -31,6 +31,7 @@ void lend(int which, const void *bytes, size_t n);
 /* A place in the lent file, for changing it there; and its length. */
 uint8_t *lent_file(size_t at);
 size_t lent_file_n(void);
+size_t lent_codes_n(void);
 
 /* As many bytes then stand between the lent file and the closed page; before the file is lent. */
 void shift_file(size_t bytes);
@@ -69,6 +70,7 @@ const uint32_t *notes_left(void);
 const uint32_t *list_left(void);
 
 uint64_t calls_made(void);
+void name_suite(const char *name);                  /* told with a difference; null for none */
 
 /* Runs a kept case again, and checks again what was due of it; the status to end with. */
 int replay(const char *name);
