@@ -560,9 +560,9 @@ fn a_refused_m8_changes_nothing() {
         (RETURNED.to_vec(), (62, 0)),
     ];
     for (file, (number, record)) in cases {
-        let mut out = [7; M8_RECORD];
+        let mut out = [7; M8_RECORD - 1];
         assert_eq!(desk::m8(Iso8859_1, &file, LISTS, &M8_CODES[..95], &mut out), refused(number, record, 0));
-        assert_eq!(out, [7; M8_RECORD], "{number}");
+        assert_eq!(out, [7; M8_RECORD - 1], "{number}");
     }
     let mut out = [7; 2 * M8_RECORD];
     let longer = [&M8_CODES[..], b"F"].concat();

@@ -883,13 +883,18 @@ static void name_returned(submission s, number_room list)
 /* Memory of its own: the kept file. */
 static uint8_t own_kept[LONGEST_FILE];
 
+/* Writes part of a record to a place; the answer is the place behind it. */
+static size_t write_field(room out, size_t place, rec r, stretch s)
+{
+    for (size_t offset = s.first; offset <= s.last; offset++)
+        put(out, place + offset - s.first, byte_of(r, offset));
+    return place + width(s);
+}
+
 /* Writes a record of the submitted file to a place of another; the answer is the place behind it. */
 static size_t append(rec r, room to, size_t place)
 {
-    size_t length = length_for(letter_of(r));
-    for (size_t offset = 0; offset < length; offset++)
-        put(to, place + offset, byte_of(r, offset));
-    return place + length;
+    return write_field(to, place, r, (stretch){0, length_for(letter_of(r)) - 1});
 }
 
 /* Writes a number into a field of the record that starts at this place, with zeros before it. */
@@ -973,7 +978,7 @@ _Static_assert(M8_LENGTH == 1 + 2 + 6 + 5 + 7 + 16 + 1 + 18 + 6 + 35 + 27, "the 
 enum { CODE_LENGTH = 6, FIRST_CODE = 20, LAST_CODE = 35, CODES_LENGTH = CODE_LENGTH * (LAST_CODE - FIRST_CODE + 1) };
 _Static_assert(CODES_LENGTH == 96, "the code table");
 
-/* Each of the next four writes at a place of the output and answers the place behind what it wrote. */
+/* Each of the next three writes at a place of the output and answers the place behind what it wrote. */
 static size_t write_text(room out, size_t place, const char *text)
 {
     for (size_t i = 0; text[i] != '\0'; i++, place++)
@@ -986,13 +991,6 @@ static size_t write_times(room out, size_t place, size_t times, uint8_t byte)
     for (size_t i = 0; i < times; i++)
         put(out, place + i, byte);
     return place + times;
-}
-
-static size_t write_field(room out, size_t place, rec r, stretch s)
-{
-    for (size_t offset = s.first; offset <= s.last; offset++)
-        put(out, place + offset - s.first, byte_of(r, offset));
-    return place + width(s);
 }
 
 static size_t write_replaced(room out, size_t place, uint32_t page, rec r, stretch s)

@@ -269,6 +269,23 @@ bool random_file(size_t count, const payment_kind *kinds, int mode)
     return sound;
 }
 
+void three_samples(void)
+{
+    payments = 3;
+    draft_n = file_bytes(3);
+    sample_q(draft);
+    sample_t(record_of(1), BIC_ALONE, "US", 120, 50);
+    sample_t(record_of(2), BIC_ALONE, "US", 79, 75);
+    sample_t(record_of(3), CHEQUE, "US", 1000, 0);
+    sample_z(draft, 3);
+}
+
+void put_new_bytes(const new_bytes *each, size_t most)
+{
+    for (const new_bytes *o = each; o < each + most && o->bytes; o++)
+        put(record_of(o->record) + o->at, o->bytes);
+}
+
 void draft_of_the_largest_sum(unsigned more)
 {
     payments = 11;

@@ -47,6 +47,13 @@ void spoil_any_byte(void);
    that become spaces. Answers whether it is sound: it is not where no country is listed, or wrong ones are wanted. */
 bool random_file(size_t count, const payment_kind *kinds, int mode);
 
+/* Three payments of 120,50, 79,75 and 1000,00, the last one a cheque. */
+void three_samples(void);
+
+/* Other bytes in a record of the draft; and some of them, up to one that has none. */
+typedef struct { size_t record; int at; const char *bytes; } new_bytes;
+void put_new_bytes(const new_bytes *each, size_t most);
+
 /* Cheques whose T14a sum up to 999,999,999,999,999, or to so many more, which Z3 cannot hold. There are eleven; the last is
    of 9 euros, and those more. */
 void draft_of_the_largest_sum(unsigned more);

@@ -4,23 +4,17 @@
 #include "filed.h"
 #include "suites.h"
 
-/* Three payments of 120,50, 79,75 and 1000,00, the last one a cheque; the second payee is M&M STUDIO. */
+/* The second payee is M&M STUDIO. */
 static void three_payments(void)
 {
-    payments = 3;
-    draft_n = file_bytes(3);
-    sample_q(draft);
-    sample_t(record_of(1), BIC_ALONE, "US", 120, 50);
-    sample_t(record_of(2), BIC_ALONE, "US", 79, 75);
-    sample_t(record_of(3), CHEQUE, "US", 1000, 0);
+    three_samples();
     memcpy(record_of(2) + 210, "M&M STUDIO   ", 13);
-    sample_z(draft, 3);
 }
 
 /* Other bytes in them; what the judge tells, record * 100 + number; what the default way answers; the returned payments; and
    the note of the ampersand, if it goes on: 1235 * 256 + 38, or, where the first payment is returned, 467 * 256 + 38. */
 typedef struct {
-    struct { size_t record; int at; const char *bytes; } other[4];
+    new_bytes other[4];
     uint64_t judged, answer[7];
     uint32_t returned[3], note;
 } example;
@@ -89,8 +83,7 @@ enum { EXAMPLES = sizeof examples / sizeof examples[0] };
 static void lend_example(const example *e)
 {
     three_payments();
-    for (int i = 0; i < 4 && e->other[i].bytes; i++)
-        put(record_of(e->other[i].record) + e->other[i].at, e->other[i].bytes);
+    put_new_bytes(e->other, 4);
     lend_draft();
 }
 

@@ -1,7 +1,5 @@
 #include "filed.h"
 
-static size_t codes_n;
-
 void lend_codes(int table, size_t n)
 {
     static uint8_t codes[SPARE + CODE_BYTES];
@@ -11,12 +9,17 @@ void lend_codes(int table, size_t n)
         codes[i] = 'R';
         put_number(codes + i + 1, CODE_BYTES - 1, 20 + i / CODE_BYTES);
     }
-    lend(CODES, codes, codes_n = n);
+    lend(CODES, codes, n);
+}
+
+uint64_t filed_number(uint64_t refused, size_t room, size_t records)
+{
+    return refused ? refused : lent_codes_n() != TABLE_BYTES ? 62 : room < M8_BYTES * records ? 60 : 0;
 }
 
 void file_in(size_t room, verdict told, const uint32_t *returned, size_t n)
 {
-    uint64_t number = told.rule ? told.rule : codes_n != TABLE_BYTES ? 62 : room < M8_BYTES * n ? 60 : 0;
+    uint64_t number = filed_number(told.rule, room, n);
     if (number) {
         due(number, told.record, 0, 0, 0);
     } else {

@@ -9,6 +9,9 @@
 enum { NAMED, ODD };
 void lend_codes(int table, size_t n);
 
+/* What is answered of so many records with the codes that are lent: what refuses the file, then 62, then 60. */
+uint64_t filed_number(uint64_t refused, size_t room, size_t records);
+
 /* Asks for the records with the codes that are lent. told is what refuses the file before codes and room are looked at, by
    A5's numbers up to 43; else its rule is 0, and it is these payments that come back. */
 void file_in(size_t room, verdict told, const uint32_t *returned, size_t n);

@@ -5,36 +5,23 @@
 #include "filed.h"
 #include "suites.h"
 
-/* Three payments of 120,50, 79,75 and 1000,00, the last one a cheque. */
-static void three_payments(void)
-{
-    payments = 3;
-    draft_n = file_bytes(3);
-    sample_q(draft);
-    sample_t(record_of(1), BIC_ALONE, "US", 120, 50);
-    sample_t(record_of(2), BIC_ALONE, "US", 79, 75);
-    sample_t(record_of(3), CHEQUE, "US", 1000, 0);
-    sample_z(draft, 3);
-}
-
 /* ---- Examples --------------------------------------------------------------------------------- */
 
-/* Codes of the receiver's list for rules 20 to 35, where it is no matter here which belongs to which; and two behind them,
-   which are not asked for. */
-static const char receivers_codes[] =
-    "FI0103" "TX0101" "FI0103" "TX0104" "TX0103" "TX0106" "TX0106" "TX0106" "LW0101" "TX0107" "FI0103" "TX0107"
-    "TX0105" "FI0103" "FI0103" "FI0103" "TX0106" "TX0106";
+/* A code for each rule from 20 to 35, and two behind them, which are not asked for. */
+static const char codes[] =
+    "CODE20" "CODE21" "CODE22" "CODE23" "CODE24" "CODE25" "CODE26" "CODE27" "CODE28" "CODE29" "CODE30" "CODE31"
+    "CODE32" "CODE33" "CODE34" "CODE35" "CODE36" "CODE37";
 
 /* The fields of table 15 that change; and the first line of T15 in the sample, which has 35 characters. */
 #define RECORD(q6, q7, amount, code, reference)                                                         \
     "DM8" q6 "000" q7 "0000000" "                " " " "00" amount code reference "                           "
 #define SALARY "SALARY FEBRUARY 2024               "
 #define ONE(amount, code) RECORD("240229", "07", amount, code, SALARY)
-#define REFERENCE(text) RECORD("240229", "07", "0000000000007975", "TX0105", text)
+#define REFERENCE(text) RECORD("240229", "07", "0000000000007975", "CODE32", text)
 
 /* Other bytes in the payments; number, record, count, and euros and cents of the records; the records. */
 typedef struct {
-    struct { size_t record; int at; const char *bytes; } other[4];
+    new_bytes other[4];
     uint64_t answer[5];
     const char *records;
 } example;
@@ -42,39 +29,39 @@ typedef struct {
 static const example examples[] = {
     {{{0}}, {0, 0, 0, 0, 0}, ""},
     {{{2, 455, "USD"}}, {0, 0, 1, 79, 75},
-     "DM8240229000070000000                 000000000000007975TX0105"
+     "DM8240229000070000000                 000000000000007975CODE32"
      "SALARY FEBRUARY 2024                                          "},
     /* two payments, in their order */
     {{{1, 13, "USD"}, {3, 207, "XX "}}, {0, 0, 2, 1120, 50},
-     ONE("0000000000012050", "FI0103") ONE("0000000000100000", "LW0101")},
+     ONE("0000000000012050", "CODE20") ONE("0000000000100000", "CODE28")},
     {{{2, 350, "X"}, {3, 315, "         "}}, {0, 0, 2, 1079, 75},
-     ONE("0000000000007975", "FI0103") ONE("0000000000100000", "TX0107")},
+     ONE("0000000000007975", "CODE30") ONE("0000000000100000", "CODE29")},
     {{{1, 650, "10"}, {2, 648, "04"}}, {0, 0, 2, 199, 125},
-     ONE("0000000000012050", "TX0104") ONE("0000000000007975", "TX0103")},
+     ONE("0000000000012050", "CODE23") ONE("0000000000007975", "CODE24")},
     /* the first rule that a payment breaks; another account than record 1 */
-    {{{2, 715, "X"}, {2, 455, "USD"}, {2, 13, "USD"}}, {0, 0, 1, 79, 75}, ONE("0000000000007975", "FI0103")},
-    {{{2, 207, "XX "}, {2, 420, "X"}}, {0, 0, 1, 79, 75}, ONE("0000000000007975", "LW0101")},
+    {{{2, 715, "X"}, {2, 455, "USD"}, {2, 13, "USD"}}, {0, 0, 1, 79, 75}, ONE("0000000000007975", "CODE20")},
+    {{{2, 207, "XX "}, {2, 420, "X"}}, {0, 0, 1, 79, 75}, ONE("0000000000007975", "CODE28")},
     {{{1, 16, "0012345679"}}, {0, 0, 2, 1079, 75},
-     ONE("0000000000007975", "TX0101") ONE("0000000000100000", "TX0101")},
-    {{{3, 53, "ABCDDEFF"}}, {0, 0, 1, 1000, 0}, ONE("0000000000100000", "TX0106")},
+     ONE("0000000000007975", "CODE21") ONE("0000000000100000", "CODE21")},
+    {{{3, 53, "ABCDDEFF"}}, {0, 0, 1, 1000, 0}, ONE("0000000000100000", "CODE25")},
     /* a tenth of a cent, nothing, a cent, and the most; Z3 is the sum of what is submitted */
-    {{{2, 474, "9"}}, {0, 0, 1, 79, 75}, ONE("0000000000007975", "FI0103")},
-    {{{2, 472, "019"}}, {0, 0, 1, 79, 1}, ONE("0000000000007901", "FI0103")},
-    {{{2, 458, "00000000000000000"}, {4, 5, "000000000001120"}}, {0, 0, 1, 0, 0}, ONE("0000000000000000", "FI0103")},
-    {{{2, 458, "00000000000000009"}, {4, 5, "000000000001120"}}, {0, 0, 1, 0, 0}, ONE("0000000000000000", "FI0103")},
+    {{{2, 474, "9"}}, {0, 0, 1, 79, 75}, ONE("0000000000007975", "CODE33")},
+    {{{2, 472, "019"}}, {0, 0, 1, 79, 1}, ONE("0000000000007901", "CODE33")},
+    {{{2, 458, "00000000000000000"}, {4, 5, "000000000001120"}}, {0, 0, 1, 0, 0}, ONE("0000000000000000", "CODE33")},
+    {{{2, 458, "00000000000000009"}, {4, 5, "000000000001120"}}, {0, 0, 1, 0, 0}, ONE("0000000000000000", "CODE33")},
     {{{2, 458, "00000000000000010"}, {2, 455, "   "}, {4, 5, "000000000001120"}}, {0, 0, 1, 0, 1},
-     ONE("0000000000000001", "TX0105")},
+     ONE("0000000000000001", "CODE32")},
     {{{2, 458, "99999999999999999"}, {4, 5, "100000000001119"}}, {0, 0, 1, 99999999999999u, 99},
-     ONE("9999999999999999", "FI0103")},
+     ONE("9999999999999999", "CODE33")},
     {{{2, 458, "12345678901234560"}, {2, 455, "   "}, {4, 5, "012345678902354"}}, {0, 0, 1, 12345678901234u, 56},
-     ONE("1234567890123456", "TX0105")},
+     ONE("1234567890123456", "CODE32")},
     /* the day and the number of the file */
     {{{0, 163, "99123199"}, {2, 455, "USD"}}, {0, 0, 1, 79, 75},
-     RECORD("991231", "99", "0000000000007975", "TX0105", SALARY)},
+     RECORD("991231", "99", "0000000000007975", "CODE32", SALARY)},
     {{{0, 163, "00010100"}, {2, 455, "USD"}}, {0, 0, 1, 79, 75},
-     RECORD("000101", "00", "0000000000007975", "TX0105", SALARY)},
+     RECORD("000101", "00", "0000000000007975", "CODE32", SALARY)},
     {{{0, 163, "12030456789012"}, {0, 21, "34"}, {2, 455, "USD"}}, {0, 0, 1, 79, 75},
-     RECORD("120304", "56", "0000000000007975", "TX0105", SALARY)},
+     RECORD("120304", "56", "0000000000007975", "CODE32", SALARY)},
     /* 35 characters of T15, replaced; and no others, of T23 neither */
     {{{2, 475, "A23456789B123456789C123456789D12345E23456789"}, {2, 455, "USD"}}, {0, 0, 1, 79, 75},
      REFERENCE("A23456789B123456789C123456789D12345")},
@@ -100,12 +87,11 @@ static const example examples[] = {
 };
 enum { EXAMPLES = sizeof examples / sizeof examples[0] };
 
-/* What is lent, with the first so many bytes of the receiver's codes: what refuses the file, then 62, then 60. */
+/* What is lent, with the first so many bytes of the codes. */
 static void file_example(const example *e, size_t codes_n, size_t room)
 {
-    size_t needed = M8_BYTES * e->answer[2];
-    uint64_t number = e->answer[0] ? e->answer[0] : codes_n != 96 ? 62 : room < needed ? 60 : 0;
-    lend(CODES, receivers_codes, codes_n);
+    lend(CODES, codes, codes_n);
+    uint64_t number = filed_number(e->answer[0], room, e->answer[2]);
     if (number) {
         due(number, e->answer[1], 0, 0, 0);
     } else {
@@ -132,9 +118,8 @@ static void file_each_way(const example *e)
 static void each_example(void)
 {
     for (const example *e = examples; e < examples + EXAMPLES; e++) {
-        three_payments();
-        for (int i = 0; i < 4 && e->other[i].bytes; i++)
-            put(record_of(e->other[i].record) + e->other[i].at, e->other[i].bytes);
+        three_samples();
+        put_new_bytes(e->other, 4);
         lend_draft();
         file_each_way(e);
     }
@@ -147,7 +132,7 @@ static void each_page_replaces(void)
         {{{0}}, {0, 0, 1, 79, 75}, REFERENCE("M+M AOUS              S            ")},
         {{{0}}, {0, 0, 1, 79, 75}, REFERENCE("M+M      AOUS         S            ")},
     };
-    three_payments();
+    three_samples();
     put(record_of(2) + 455, "USD");
     put(record_of(2) + 475, "M&M [\\]~ \xC4\xD6\xDC\xDF {|} \xE4\xF6\xFC $");
     lend_draft();
@@ -173,7 +158,7 @@ static void lend_two_returned(void)
 static void each_character(void)
 {
     lend_codes(ODD, TABLE_BYTES);
-    three_payments();
+    three_samples();
     for (unsigned from = 0; from < 256; from++) {
         for (size_t r = 1; r <= 3; r++)
             for (int at = text_field[6].first; at <= text_field[6].last; at++)
@@ -217,7 +202,7 @@ static void each_number_in_t14b(uint64_t euros)
     lend_codes(NAMED, TABLE_BYTES);
     for (unsigned n = 0; n < 1000; n++) {
         bool usd = n % 3 == 0 || (n % 10 == 0 && (euros || n));
-        three_payments();
+        three_samples();
         put_number(record_of(2) + 458, 14, euros);
         put_number(record_of(2) + 472, 3, n);
         put(record_of(2) + 455, usd ? "USD" : "EUR");
@@ -232,7 +217,7 @@ static void each_digit_of_t14a(void)
 {
     for (int at = 458; at <= 471; at++)
         for (uint8_t digit = '0'; digit <= '9'; digit++) {
-            three_payments();
+            three_samples();
             record_of(1)[at] = digit;
             record_of(3)[929 - at] = digit;
             lend_two_returned();
@@ -243,7 +228,7 @@ static void each_digit_of_t14a(void)
 static void each_day_and_number(void)
 {
     for (unsigned n = 0; n < 100; n++) {
-        three_payments();
+        three_samples();
         put_number(draft + 163, 2, n);
         put_number(draft + 165, 2, 1 + n % 12);
         put_number(draft + 167, 2, 1 + n % 28);
@@ -260,7 +245,7 @@ static void each_length_of_table(void)
 {
     static const size_t lengths[] = {255, 256, 257, 352, 608, 9600, 65536, 65632, 131168, SPARE};
     for (size_t returned = 0; returned <= 2; returned += 2) {
-        three_payments();
+        three_samples();
         if (returned)
             lend_two_returned();
         else
@@ -279,7 +264,7 @@ static void each_length_of_table(void)
 /* Rooms of every length up to four records. */
 static void each_length_of_room(void)
 {
-    three_payments();
+    three_samples();
     lend_two_returned();
     lend_codes(NAMED, TABLE_BYTES);
     for (size_t room = 0; room <= 4 * M8_BYTES; room++)

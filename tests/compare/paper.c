@@ -190,7 +190,7 @@ const place m8_field[M8_FIELDS + 1] = {
 
 static const uint8_t *payment_of(const uint8_t *file, size_t record) { return file + 256 + 768 * (record - 1); }
 
-/* The last digit of T14b is no cent. */
+/* The last digit of T14b is no cent. euros_of counts a file's payments: t is the first where a Q stands before it. */
 static amount amount_of_payment(const uint8_t *t)
 {
     return (amount){euros_of(t - 256, 1), 10 * (uint64_t)(t[472] - '0') + (uint64_t)(t[473] - '0')};
