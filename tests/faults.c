@@ -1,8 +1,9 @@
 /* Linked into both example hosts by tests/hosts, with ld's --wrap: faults that are hard to cause from outside. The word
    in DESK_FAULT says which: with "restore" another byte comes back than went in; with "list" the payment behind the first
-   returned one is named in its place; with "m8" one M8 record too few is told; with "after=PATH" nothing can be renamed to
+   returned one is named in its place; with "m8" one M8 record too few is told; with "after=PATH" nothing gets the name
    new-forwarded while nothing is at that path; with "full=PATH" the disk is full when what was written to that path is to
-   go there; and any other word is a path to which nothing can be renamed. */
+   go there; with "kept=PATH" that path cannot be removed while another name of its file is there; and any other word is a
+   name that nothing gets. */
 #include "../hosts/c/desk.h"
 
 #include <errno.h>
@@ -22,7 +23,9 @@ desk_returns __real_desk_m8(uint32_t page, const uint8_t *file, size_t n,
 desk_restored __real_desk_restore(uint32_t page, const uint8_t *forwarded, size_t n, const uint32_t *notes, size_t notes_n,
                                   const uint8_t *transfer, size_t nt, const uint8_t *cheque, size_t nc,
                                   uint8_t *out, size_t out_n);
-int __real_rename(const char *from, const char *to);
+int __real_link(const char *from, const char *to);
+int __real_linkat(int from_in, const char *from, int to_in, const char *to, int flags);
+int __real_unlink(const char *path);
 int __real_fsync(int descriptor);
 
 static bool fault_is(const char *word)
@@ -70,24 +73,40 @@ desk_restored __wrap_desk_restore(uint32_t page, const uint8_t *forwarded, size_
     return back;
 }
 
-int __wrap_rename(const char *from, const char *to)
+/* What a call answers that fails for this reason. */
+static int fails(int why)
+{
+    errno = why;
+    return -1;
+}
+
+static bool cannot_be(const char *name)
 {
     const char *earlier = fault_path("after=");
-    bool too_early = earlier && strcmp(to, "new-forwarded") == 0 && access(earlier, F_OK) != 0;
-    if (fault_is(to) || too_early) {
-        errno = EBUSY;
-        return -1;
-    }
-    return __real_rename(from, to);
+    return fault_is(name) || (earlier && strcmp(name, "new-forwarded") == 0 && access(earlier, F_OK) != 0);
+}
+
+int __wrap_link(const char *from, const char *to) { return cannot_be(to) ? fails(EBUSY) : __real_link(from, to); }
+
+/* Rust's library gives names by this call. */
+int __wrap_linkat(int from_in, const char *from, int to_in, const char *to, int flags)
+{
+    return cannot_be(to) ? fails(EBUSY) : __real_linkat(from_in, from, to_in, to, flags);
+}
+
+int __wrap_unlink(const char *path)
+{
+    const char *kept = fault_path("kept=");
+    struct stat status;
+    bool stays = kept && strcmp(path, kept) == 0 && stat(path, &status) == 0 && status.st_nlink > 1;
+    return stays ? fails(EBUSY) : __real_unlink(path);
 }
 
 int __wrap_fsync(int descriptor)
 {
     const char *path = fault_path("full=");
     struct stat written, asked;
-    if (path && fstat(descriptor, &written) == 0 && stat(path, &asked) == 0 && written.st_ino == asked.st_ino) {
-        errno = ENOSPC;
-        return -1;
-    }
+    if (path && fstat(descriptor, &written) == 0 && stat(path, &asked) == 0 && written.st_ino == asked.st_ino)
+        return fails(ENOSPC);
     return __real_fsync(descriptor);
 }

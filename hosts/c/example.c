@@ -34,8 +34,9 @@
       payments, that nobody saw.
    4. Those that are named are written, down to the disk, each to a new file beside its target: the target's name with
       .new behind it. Where such a file is there already, as a killed run leaves it, it stays and the run ends.
-   5. When all are complete they are renamed to their targets, the forwarded file last: none is without its notes, nor
-      without the M8 records that were asked for.
+   5. When all are complete they get their targets' names, the forwarded file last: none is without its notes, nor
+      without the M8 records that were asked for. A file that has got such a name meanwhile is not replaced either: the
+      new file is linked to the name, which fails there, and then loses its own. So the file system has to have links.
    Where a step fails, what was made is removed.
 
    In the notes file each note has four bytes, little-endian. Status 0: the whole file goes on, and all is done; 1:
@@ -240,12 +241,14 @@ static bool same(const location *a, const location *b)
     return a->device == b->device && a->inode == b->inode && strcmp(a->name, b->name) == 0;
 }
 
+static bool is_there(const char *path) { return wrong(path, "is there already, and is not written over"); }
+
 /* Whether nothing stands at a path, not even a link that leads nowhere. */
 static bool is_free(const char *path)
 {
     struct stat status;
     if (lstat(path, &status) == 0)
-        return wrong(path, "is there already, and is not written over");
+        return is_there(path);
     return errno == ENOENT || wrong(path, strerror(errno));
 }
 
@@ -302,10 +305,16 @@ static bool write_new(const output *due)
     return wrong(due->new_path, strerror(why));
 }
 
-/* Renames a complete new file to its target. */
+/* Gives a complete new file its target's name, and takes its own away. */
 static bool put_in_place(const output *due)
 {
-    return rename(due->new_path, due->path) == 0 || wrong(due->path, strerror(errno));
+    if (link(due->new_path, due->path) != 0)
+        return errno == EEXIST ? is_there(due->path) : wrong(due->path, strerror(errno));
+    if (unlink(due->new_path) == 0)
+        return true;
+    int why = errno;
+    unlink(due->path);
+    return wrong(due->new_path, strerror(why));
 }
 
 /* Writes so many files, and puts them in place in their order: all, or none. */
@@ -516,7 +525,10 @@ static void tell_m8(uint64_t payment_record, const uint8_t *record)
            payment_record, digits + M8_FILE, digits + M8_DATE, digits + M8_DATE + 2, digits + M8_DATE + 4,
            cents / 100, cents % 100);
     tell_text(DESK_ISO_8859_1, record + M8_REFERENCE, LINE); /* replaced: it reads alike on both pages */
-    printf("\n    code %.6s: %s\n", digits + M8_CODE, meaning ? meaning : "?");
+    printf("\n    code ");
+    for (int i = M8_CODE; i < M8_REFERENCE; i++)
+        tell_character(record[i]);
+    printf(": %s\n", meaning ? meaning : "?");
 }
 
 /* Makes the M8 records, and tells them. There has to be one for each payment that comes back. */
@@ -524,7 +536,7 @@ static bool make_m8(uint32_t page, size_t n, const desk_prepared *sent)
 {
     desk_returns made = desk_m8(page, file, n, LISTS, desk_m8_codes, sizeof desk_m8_codes, m8, sizeof m8);
     if (made.number || made.count != sent->returned) {
-        puts("not an M8 record for each payment that comes back");
+        puts("M8 records are missing: nothing is written");
         return false;
     }
     for (uint64_t i = 0; i < made.count; i++)

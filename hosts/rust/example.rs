@@ -34,8 +34,9 @@
 //!    payments, that nobody saw.
 //! 4. Those that are named are written, down to the disk, each to a new file beside its target: the target's name with
 //!    .new behind it. Where such a file is there already, as a killed run leaves it, it stays and the run ends.
-//! 5. When all are complete they are renamed to their targets, the forwarded file last: none is without its notes, nor
-//!    without the M8 records that were asked for.
+//! 5. When all are complete they get their targets' names, the forwarded file last: none is without its notes, nor
+//!    without the M8 records that were asked for. A file that has got such a name meanwhile is not replaced either: the
+//!    new file is linked to the name, which fails there, and then loses its own. So the file system has to have links.
 //!
 //! Where a step fails, what was made is removed.
 //!
@@ -276,15 +277,21 @@ fn examine(way: Way, file: &[u8], out: &mut impl Write) -> io::Result<Option<Out
     match way.m8 {
         _ if !is_restored => Ok(None),
         None => Ok(Some(outgoing)),
-        Some(_) => Ok(m8_records(page, file, returned, out)?.map(|m8| Outgoing { m8, ..outgoing })),
+        Some(_) => Ok(m8_records(page, file, returned, sent, out)?.map(|m8| Outgoing { m8, ..outgoing })),
     }
 }
 
 /// The M8 records, which it tells. There has to be one for each payment that comes back.
-fn m8_records(page: Page, file: &[u8], returned: &[u32], out: &mut impl Write) -> io::Result<Option<Vec<u8>>> {
-    let mut records = vec![0; returned.len() * M8_RECORD];
+fn m8_records(
+    page: Page,
+    file: &[u8],
+    returned: &[u32],
+    sent: Prepared,
+    out: &mut impl Write,
+) -> io::Result<Option<Vec<u8>>> {
+    let mut records = vec![0; sent.m8_bytes()];
     if desk::m8(page, file, LISTS, &M8_CODES, &mut records) != Ok(returned.len()) {
-        writeln!(out, "not an M8 record for each payment that comes back")?;
+        writeln!(out, "M8 records are missing: nothing is written")?;
         return Ok(None);
     }
     for (&number, record) in returned.iter().zip(records.chunks(M8_RECORD)) {
@@ -298,12 +305,13 @@ fn m8_records(page: Page, file: &[u8], returned: &[u32], out: &mut impl Write) -
 
 /// Tells the M8 record of a payment: number and date of the file, amount, reference and code.
 fn tell_m8(payment_record: u64, record: &[u8], out: &mut impl Write) -> io::Result<()> {
-    let text = |place: Range<usize>| text(Page::Iso8859_1, &record[place]); // replaced: it reads alike on both pages
-    let (date, file, reference, code) = (text(M8_DATE), text(M8_FILE), text(M8_REFERENCE), text(M8_CODE));
+    let part = |place: Range<usize>| text(Page::Iso8859_1, &record[place]); // replaced: it reads alike on both pages
+    let (date, file, reference) = (part(M8_DATE), part(M8_FILE), part(M8_REFERENCE));
+    let code: String = record[M8_CODE].iter().map(|&byte| character(Page::Iso8859_1, byte)).collect();
     let date = format!("20{}-{}-{}", &date[..2], &date[2..4], &date[4..]);
     let cents = number(&record[M8_AMOUNT]);
     let amount = format!("{},{:02} euros", cents / 100, cents % 100);
-    let meaning = desk::m8_meaning(code.as_bytes()).unwrap_or("?");
+    let meaning = desk::m8_meaning(&record[M8_CODE]).unwrap_or("?");
     writeln!(out, "M8 of record {payment_record}: file {file} of {date}, {amount}, reference \"{reference}\"")?;
     writeln!(out, "    code {code}: {meaning}")
 }
@@ -515,17 +523,26 @@ fn write_all(files: &[(&Target, &[u8])]) -> Result<(), Failure> {
     done.map_err(|failure| made.into_iter().fold(failure, |failure, path| removed(path, failure)))
 }
 
-/// The same, up to what fails. What it has made is told.
+/// The same, up to what fails; `made` names what is there then, for the caller to remove.
 fn make_all<'a>(files: &[(&'a Target, &[u8])], made: &mut Vec<&'a Path>) -> Result<(), Failure> {
     for (target, bytes) in files {
         write_new(&target.new_path, bytes)?;
         made.push(&target.new_path);
     }
     for (i, (target, _)) in files.iter().enumerate() {
-        fs::rename(&target.new_path, &target.path).map_err(|error| failed(&target.path, &error))?;
+        put_in_place(target)?;
         made[i] = &target.path;
     }
     Ok(())
+}
+
+/// Gives a complete new file its target's name, and takes its own away.
+fn put_in_place(target: &Target) -> Result<(), Failure> {
+    fs::hard_link(&target.new_path, &target.path).map_err(|error| match error.kind() {
+        ErrorKind::AlreadyExists => is_there(&target.path),
+        _ => failed(&target.path, &error),
+    })?;
+    fs::remove_file(&target.new_path).map_err(|error| removed(&target.path, failed(&target.new_path, &error)))
 }
 
 /// Where a new file is to be: its directory, and its name there.
@@ -542,10 +559,14 @@ fn locate(path: &Path) -> Result<Location, Failure> {
     Ok(Location { device: directory.dev(), inode: directory.ino(), name: name.to_owned() })
 }
 
+fn is_there(path: &Path) -> Failure {
+    wrong(path, "is there already, and is not written over")
+}
+
 /// Asks that nothing stands at a path, not even a link that leads nowhere.
 fn is_free(path: &Path) -> Result<(), Failure> {
     match fs::symlink_metadata(path) {
-        Ok(_) => Err(wrong(path, "is there already, and is not written over")),
+        Ok(_) => Err(is_there(path)),
         Err(error) if error.kind() == ErrorKind::NotFound => Ok(()),
         Err(error) => Err(failed(path, &error)),
     }
