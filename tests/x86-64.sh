@@ -6,11 +6,14 @@ flags="-O3 -std=c11 -Wall -Wextra -Werror -Ihosts/c"
 # What a command says is shown only where it fails. The scripts may run side by side: one such command at a time.
 quietly() {
     mkdir -p target/tests
-    if ! (flock 9 && "$@") >"target/tests/quiet-$$.log" 2>&1 9>target/tests/quiet.lock; then
-        tail -n 30 "target/tests/quiet-$$.log" >&2
+    local status=0 log=target/tests/quiet-$$.log
+    (flock 9 && "$@" 9>&-) >"$log" 2>&1 9>target/tests/quiet.lock || status=$?
+    if [ $status -ne 0 ]; then
+        tail -n 30 "$log" >&2
         echo "$* failed" >&2
-        return 1
     fi
+    rm -f "$log"
+    return $status
 }
 
 # install_packages PACKAGE..: Debian's packages
