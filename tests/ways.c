@@ -1,4 +1,4 @@
-/* Prepares a file by the strict way and by the default way. Built by tests/ways.
+/* Prepares a file by the strict way and by the default way, and files M8 records. Built by tests/ways.
        ways PAYMENTS WHICH          nanoseconds a payment, how many come back, and what was measured
        ways PAYMENTS WHICH TIMES    so many times: for counting */
 #define _GNU_SOURCE
@@ -11,11 +11,12 @@
 #include "desk.h"
 #include "sample.h"
 
-enum { STRICT, SOUND, TENTH, HALF, ALL_BUT_ONE, ROUNDS = 7, WORK = 200000, LONGEST = 256 + 768 * 9999 + 256 };
+enum { STRICT, SOUND, TENTH, HALF, ALL_BUT_ONE, M8_SOUND, M8_HALF, ROUNDS = 7, WORK = 200000, LONGEST = 256 + 768 * 9999 + 256 };
 
 static const char *const what[] = {"strict way, sound", "default way, sound", "default way, a tenth returned",
-                                   "default way, half returned", "default way, all but one"};
-static uint8_t file[LONGEST], out[LONGEST];
+                                   "default way, half returned", "default way, all but one", "M8 records, sound",
+                                   "M8 records, half returned"};
+static uint8_t file[LONGEST], out[LONGEST], codes[DESK_M8_CODES];
 static uint32_t notes[1], returned[9999];
 static size_t payments, bytes;
 static int which;
@@ -24,7 +25,8 @@ static bool comes_back(size_t i)
 {
     switch (which) {
     case TENTH: return i % 10 == 9;
-    case HALF: return i % 2 == 1;
+    case HALF:
+    case M8_HALF: return i % 2 == 1;
     case ALL_BUT_ONE: return i > 0;
     default: return false;
     }
@@ -48,35 +50,43 @@ static size_t begin(void)
     return back;
 }
 
-#define LENT file, bytes, (const uint8_t *)annex_ii, ANNEX_II_BYTES, (const uint8_t *)annex_i, ANNEX_I_BYTES, \
-             out, bytes, notes, 1
+#define SUBMITTED file, bytes, (const uint8_t *)annex_ii, ANNEX_II_BYTES, (const uint8_t *)annex_i, ANNEX_I_BYTES
+#define LENT SUBMITTED, out, bytes, notes, 1
+#define LENT_CODES SUBMITTED, codes, sizeof codes, out, bytes
 #if __x86_64__
 static void strictly(desk_strict *answer) { *answer = desk_prepare_strict(DESK_DIN_66003, LENT); }
 static void sort(desk_prepared *answer) { *answer = desk_prepare(DESK_DIN_66003, LENT, returned, 9999); }
+static void file_m8(desk_returns *answer) { *answer = desk_m8(DESK_DIN_66003, LENT_CODES); }
 #else
 /* The module is made for x86-64, where a long answer is written through a first argument, and so it is here. */
-#define PREPARES(name, answer, ...) \
-    void name(answer *, uint32_t, const uint8_t *, size_t, const uint8_t *, size_t, const uint8_t *, size_t, \
-              uint8_t *, size_t, uint32_t *, size_t __VA_ARGS__)
-PREPARES(strict_at, desk_strict) __asm__("desk_prepare_strict");
-PREPARES(sorted_at, desk_prepared, , uint32_t *, size_t) __asm__("desk_prepare");
+#define ANSWERS(name, answer, ...) \
+    void name(answer *, uint32_t, const uint8_t *, size_t, const uint8_t *, size_t, const uint8_t *, size_t, __VA_ARGS__)
+ANSWERS(strict_at, desk_strict, uint8_t *, size_t, uint32_t *, size_t) __asm__("desk_prepare_strict");
+ANSWERS(sorted_at, desk_prepared, uint8_t *, size_t, uint32_t *, size_t, uint32_t *, size_t) __asm__("desk_prepare");
+ANSWERS(filed_at, desk_returns, const uint8_t *, size_t, uint8_t *, size_t) __asm__("desk_m8");
 static void strictly(desk_strict *answer) { strict_at(answer, DESK_DIN_66003, LENT); }
 static void sort(desk_prepared *answer) { sorted_at(answer, DESK_DIN_66003, LENT, returned, 9999); }
+static void file_m8(desk_returns *answer) { filed_at(answer, DESK_DIN_66003, LENT_CODES); }
 #endif
 
 static bool as_due(size_t back)
 {
     desk_strict strict;
     desk_prepared sorted;
+    desk_returns filed;
     if (which == STRICT) {
         strictly(&strict);
         return strict.number == 0;
+    }
+    if (which == M8_SOUND || which == M8_HALF) {
+        file_m8(&filed);
+        return filed.number == 0 && filed.count == back;
     }
     sort(&sorted);
     return sorted.number == 0 && sorted.returned == back;
 }
 
-static void prepare(size_t back, size_t times)
+static void repeat(size_t back, size_t times)
 {
     while (times-- > 0)
         if (!as_due(back)) {
@@ -100,14 +110,14 @@ int main(int argc, char **argv)
     which = atoi(argv[2]);
     size_t back = begin();
     if (argc == 4) {
-        prepare(back, strtoul(argv[3], NULL, 10));
+        repeat(back, strtoul(argv[3], NULL, 10));
         return 0;
     }
     double best = 1e9;
     size_t times = WORK / payments;
     for (int round = 0; round < ROUNDS; round++) {
         double start = seconds();
-        prepare(back, times);
+        repeat(back, times);
         double each = (seconds() - start) / (double)(times * payments);
         best = each < best ? each : best;
     }
