@@ -241,14 +241,15 @@ static bool same(const location *a, const location *b)
     return a->device == b->device && a->inode == b->inode && strcmp(a->name, b->name) == 0;
 }
 
-static bool is_there(const char *path) { return wrong(path, "is there already, and is not written over"); }
+/* What is wrong with a path at which something stands. */
+static bool taken(const char *path) { return wrong(path, "is there already, and is not written over"); }
 
 /* Whether nothing stands at a path, not even a link that leads nowhere. */
 static bool is_free(const char *path)
 {
     struct stat status;
     if (lstat(path, &status) == 0)
-        return is_there(path);
+        return taken(path);
     return errno == ENOENT || wrong(path, strerror(errno));
 }
 
@@ -309,7 +310,7 @@ static bool write_new(const output *due)
 static bool put_in_place(const output *due)
 {
     if (link(due->new_path, due->path) != 0)
-        return errno == EEXIST ? is_there(due->path) : wrong(due->path, strerror(errno));
+        return errno == EEXIST ? taken(due->path) : wrong(due->path, strerror(errno));
     if (unlink(due->new_path) == 0)
         return true;
     int why = errno;

@@ -539,7 +539,7 @@ fn make_all<'a>(files: &[(&'a Target, &[u8])], made: &mut Vec<&'a Path>) -> Resu
 /// Gives a complete new file its target's name, and takes its own away.
 fn put_in_place(target: &Target) -> Result<(), Failure> {
     fs::hard_link(&target.new_path, &target.path).map_err(|error| match error.kind() {
-        ErrorKind::AlreadyExists => is_there(&target.path),
+        ErrorKind::AlreadyExists => taken(&target.path),
         _ => failed(&target.path, &error),
     })?;
     fs::remove_file(&target.new_path).map_err(|error| removed(&target.path, failed(&target.new_path, &error)))
@@ -559,14 +559,15 @@ fn locate(path: &Path) -> Result<Location, Failure> {
     Ok(Location { device: directory.dev(), inode: directory.ino(), name: name.to_owned() })
 }
 
-fn is_there(path: &Path) -> Failure {
+/// What is wrong with a path at which something stands.
+fn taken(path: &Path) -> Failure {
     wrong(path, "is there already, and is not written over")
 }
 
 /// Asks that nothing stands at a path, not even a link that leads nowhere.
 fn is_free(path: &Path) -> Result<(), Failure> {
     match fs::symlink_metadata(path) {
-        Ok(_) => Err(is_there(path)),
+        Ok(_) => Err(taken(path)),
         Err(error) if error.kind() == ErrorKind::NotFound => Ok(()),
         Err(error) => Err(failed(path, &error)),
     }

@@ -60,6 +60,7 @@ static bool run_suites(const char *name, uint64_t seed)
         for (uint32_t page = 0; page < suites[i].pages; page++) {
             use_annexes();
             use_page(page);
+            lend(FILE_IN, NULL, 0);
             suites[i].run();
         }
     }
@@ -149,7 +150,7 @@ int main(int argc, char **argv)
         else if (strcmp(argv[i], "--replay") == 0) kept = argv[i + 1];
         else if (strcmp(argv[i], "--suite") == 0) suite = argv[i + 1];
         else return usage();
-    if (argc % 2 == 0)
+    if (argc % 2 == 0 || (suite && seconds))
         return usage();
     snprintf(cases, sizeof cases, "target/tests/case-%" PRIu64 "-", seed);
     open_areas(kept ? NULL : cases);

@@ -45,10 +45,9 @@ void file_returned(size_t way, verdict told, const uint32_t *returned, size_t n)
 /* Where the room for what goes on was too short, it is not known how many come back: one at least, and one is kept. */
 void file_after_prepare(const uint64_t *sorted, bool t_rule)
 {
-    static size_t turn = 0;
+    size_t turn = next_turn(FILING) % FILINGS;
     const verdict told = {sorted[0], sorted[1], 0};
     bool room_short = told.rule == 60 || told.rule == 61 || told.rule == 63;
-    turn = (turn + 1) % FILINGS;
     if (!room_short) {
         file_returned(turn, told, list_left(), told.rule ? 0 : sorted[4]);
     } else if (!t_rule) {

@@ -33,8 +33,7 @@ void judge_each_way(verdict told)
 
 void judge_by_turns(verdict told)
 {
-    static unsigned turn = 0;
-    if (turn++ % 4 == 0)
+    if (next_turn(JUDGING) % 4 == 0)
         judge_each_way(told);
     else
         judge_lent(told);
