@@ -6,7 +6,7 @@
 #include <stddef.h>
 #include <stdint.h>
 
-void begin_chance(uint64_t seed);                    /* and the turns from 0 */
+void begin_chance(uint64_t seed);                   /* and the turns from 0 */
 uint64_t any(void);
 size_t below(size_t n);                             /* 0 for n 0 */
 bool one_in(size_t n);

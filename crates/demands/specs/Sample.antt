@@ -1,17 +1,10 @@
 -- Records to compute with: small sound files, written field by field in document 01's order (RULES 2.2 to 2.4).
 use Prim.Native.Nat.{ℕ}
-use Prim.Native.Char.{code}
 use Prim.Native.String.{String}
 use mathlib.Core.List.{List, [], _∷_, _++_}
-use lib.ListN.{take, replicate}
-use Rattle.laws.specs.Ascii.{ascii}
+use lib.ListN.{take}
+use Rattle.laws.specs.Ascii.{ascii, zeros, spaces}
 use Rattle.judge.specs.Records.{fileOf}
-
-abbrev pub spaces : ℕ → List ℕ
-spaces n = replicate n (code " ")
-
-abbrev pub zeros : ℕ → List ℕ
-zeros n = replicate n (code "0")
 
 -- a text in a field of n bytes
 abbrev pub in-field : ℕ → String → List ℕ

@@ -24,6 +24,10 @@ pub every-fold : {A : Type 0} (test : A → Bool) (a : Bool) (s : List A) → fo
 every-fold test a [] = sym (and-true a)
 every-fold test a (x ∷ s) = every-fold test (a && test x) s ∙ and-assoc a (test x) (every test s)
 
+pub every-append : {A : Type 0} (test : A → Bool) (s t : List A) → every test (s ++ t) ≡ every test s && every test t
+every-append test [] t = refl
+every-append test (x ∷ s) t = ap (λ (b : Bool). test x && b) (every-append test s t) ∙ sym (and-assoc (test x) (every test s) (every test t))
+
 pub some-fold : {A : Type 0} (test : A → Bool) (a : Bool) (s : List A) → fold (λ (t : Bool) (x : A). t || test x) a s ≡ a || some test s
 some-fold test a [] = sym (or-false a)
 some-fold test a (x ∷ s) = some-fold test (a || test x) s ∙ or-assoc a (test x) (some test s)
@@ -43,7 +47,7 @@ alphanumeric : (b : ℕ) → member CapitalOrDigit b ≡ true → unchanged b �
 alphanumeric b e =
     first-or-third (within (code "A") (code "Z") b) (within (code "a") (code "z") b) (within (code "0") (code "9") b) (among (ascii " .,-/+%") b) e
 
-member-unchanged : (c : Class) (b : ℕ) → member c b ≡ true → unchanged b ≡ true
+pub member-unchanged : (c : Class) (b : ℕ) → member c b ≡ true → unchanged b ≡ true
 member-unchanged Digit b e = alphanumeric b (ap (λ (t : Bool). member Capital b || t) e ∙ or-true (member Capital b))
 member-unchanged Zero b e = ap unchanged (eqb-true b (code "0") e)
 member-unchanged Space b e = ap unchanged (eqb-true b (code " ") e)

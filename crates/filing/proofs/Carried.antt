@@ -1,20 +1,20 @@
 -- A record's bytes: its digits are digits, and its text is such as the receiver carries.
-use Prim.Native.Nat.{ℕ, zero, suc, _*_, _-_}
-use Prim.Native.Char.{code}
+use Prim.Native.Nat.{ℕ, _*_, _-_}
 use mathlib.Core.Path.{_≡_, refl, sym, ap, ap₂, _∙_}
-use mathlib.Core.Bool.{Bool, true, false, cond, _&&_, _||_, false≢true}
+use mathlib.Core.Bool.{Bool, true, false, cond, _&&_, false≢true}
 use mathlib.Core.List.{List, [], _∷_, _++_, append-assoc}
 use native.Mathlib.Omega.{arith}
-use lib.ListN.{length, take, drop, length-append}
+use lib.ListN.{length, take, drop, length-append, take-append-drop}
 use lib.Seq.{take-at, drop-at, take-all}
 use Rattle.laws.specs.Choice.{both}
-use Rattle.laws.specs.Ascii.{ascii}
-use Rattle.charset.specs.Table.{within, among, unchanged, text, rep-unchanged}
+use Rattle.laws.specs.Ascii.{zeros, spaces}
+use Rattle.charset.specs.Table.{unchanged, text, rep-unchanged}
 use Rattle.records.specs.Places.{_to_, part, lineOf, tPlace}
 use Rattle.records.specs.declared.QField.the-variants.{Q6, Q7}
 use Rattle.records.specs.declared.TField.the-variants.{T14a, T14b, T15}
 use Rattle.fields.specs.Class.{member, every, allOf}
 use Rattle.fields.specs.Number.{isDate}
+use Rattle.fields.specs.Laws.{every-append, member-unchanged}
 use Rattle.fields.specs.declared.Class.the-variants.{Digit}
 use Rattle.rules.specs.Wrong.{Fields, firstWrong}
 use Rattle.rules.specs.Q.{inQ, fields14, rule13, rule14}
@@ -22,46 +22,30 @@ use Rattle.rules.specs.Faults.{qFault}
 use Rattle.payments.specs.Rules.{inT}
 use Rattle.judge.specs.Records.{joined}
 use Rattle.sorting.specs.Sorted.{inDigits}
-use Rattle.m8.specs.Record.{zeros, spaces, amountOf, referenceOf, fields, m8Of, codeOf}
+use Rattle.m8.specs.Record.{amountOf, referenceOf, fields, m8Of, codeOf}
 use Rattle.m8.specs.Writing.{joined-append, reference-long}
 use Rattle.filing.specs.Filing.{OfPayment, Carried}
 
 -- a test of every byte, of lists that are joined or parted
 module _ (test : ℕ → Bool) where
-  pub every-append : (s t : List ℕ) → every test s ≡ true → every test t ≡ true → every test (s ++ t) ≡ true
-  every-append [] t p q = q
-  every-append (x ∷ s) t p q = let w = both (test x) (every test s) p in ap₂ _&&_ (w .0) (every-append s t (w .1) q)
+  every-both : (s t : List ℕ) → every test s ≡ true → every test t ≡ true → every test (s ++ t) ≡ true
+  every-both s t p q = every-append test s t ∙ ap₂ _&&_ p q
 
-  every-take : (n : ℕ) (s : List ℕ) → every test s ≡ true → every test (take n s) ≡ true
-  every-take zero s p = refl
-  every-take (suc n) [] p = refl
-  every-take (suc n) (x ∷ s) p = let w = both (test x) (every test s) p in ap₂ _&&_ (w .0) (every-take n s (w .1))
-
-  every-drop : (n : ℕ) (s : List ℕ) → every test s ≡ true → every test (drop n s) ≡ true
-  every-drop zero s p = p
-  every-drop (suc n) [] p = refl
-  every-drop (suc n) (x ∷ s) p = every-drop n s (both (test x) (every test s) p .1)
+  every-parted : (n : ℕ) (s : List ℕ) → every test s ≡ true → (every test (take n s) ≡ true) × (every test (drop n s) ≡ true)
+  every-parted n s p =
+      both (every test (take n s)) (every test (drop n s)) (sym (every-append test (take n s) (drop n s)) ∙ ap (every test) (take-append-drop n s) ∙ p)
 
 -- replaced text, and digits
 every-replaced : (page : ℕ) (s : List ℕ) → every unchanged (text page s) ≡ true
 every-replaced page [] = refl
 every-replaced page (x ∷ s) = ap₂ _&&_ (rep-unchanged page x) (every-replaced page s)
 
-digit-carried : (b : ℕ) → member Digit b ≡ true → unchanged b ≡ true
-digit-carried b e = go (within (code "A") (code "Z") b) (within (code "a") (code "z") b) (member Digit b) (among (ascii " .,-/+%") b) e
-  where
-    go : (a b c d : Bool) → c ≡ true → a || b || c || d ≡ true
-    go true b c d e = refl
-    go false true c d e = refl
-    go false false true d e = refl
-    go false false false d e = absurd (false≢true e)
-
 digits-carried : (s : List ℕ) → allOf Digit s ≡ true → every unchanged s ≡ true
 unfolding allOf
 digits-carried [] e = refl
 digits-carried (x ∷ s) e =
     let w = both (member Digit x) (every (member Digit) s) e in
-    ap₂ _&&_ (digit-carried x (w .0)) (digits-carried s (w .1))
+    ap₂ _&&_ (member-unchanged Digit x (w .0)) (digits-carried s (w .1))
 
 -- the digits of Q6 and Q7, by rules 13 and 14
 module _ (page : ℕ) (q : List ℕ) where
@@ -103,7 +87,7 @@ module _ (page : ℕ) (q codes t : List ℕ) (rule : ℕ) {m8 : List ℕ} (of : 
   unfolding allOf part
   amount =
       let w = both (allOf Digit (inT T14a t)) (allOf Digit (inT T14b t)) digits in
-      every-append (member Digit) (inT T14a t) (take 2 (inT T14b t)) (w .0) (every-take (member Digit) 2 (inT T14b t) (w .1))
+      every-both (member Digit) (inT T14a t) (take 2 (inT T14b t)) (w .0) (every-parted (member Digit) 2 (inT T14b t) (w .1) .0)
 
   -- the fields before the code, and those behind it
   abbrev front : List ℕ
@@ -114,11 +98,11 @@ module _ (page : ℕ) (q codes t : List ℕ) (rule : ℕ) {m8 : List ℕ} (of : 
 
   known-front : every unchanged front ≡ true
   known-front =
-      every-append unchanged (inQ Q6 q) _ (digits-carried (inQ Q6 q) date)
-      (every-append unchanged (zeros 3 ++ inQ Q7 q) _ (digits-carried (zeros 3 ++ inQ Q7 q) number) (every-append unchanged (amountOf t) [] (digits-carried (amountOf t) amount) refl))
+      every-both unchanged (inQ Q6 q) _ (digits-carried (inQ Q6 q) date)
+      (every-both unchanged (zeros 3 ++ inQ Q7 q) _ (digits-carried (zeros 3 ++ inQ Q7 q) number) (every-both unchanged (amountOf t) [] (digits-carried (amountOf t) amount) refl))
 
   known-end : every unchanged end ≡ true
-  known-end = every-append unchanged (referenceOf page t) (spaces 27) (every-replaced page (part (lineOf (tPlace T15) 1) t)) refl
+  known-end = every-both unchanged (referenceOf page t) (spaces 27) (every-replaced page (part (lineOf (tPlace T15) 1) t)) refl
 
   parts : m8Of page q (codeOf codes rule) t ≡ front ++ (codeOf codes rule ++ end)
   unfolding m8Of
@@ -145,8 +129,8 @@ module _ (page : ℕ) (q codes t : List ℕ) (rule : ℕ) {m8 : List ℕ} (of : 
   whole : every unchanged codes ≡ true → every unchanged (m8Of page q (codeOf codes rule) t) ≡ true
   whole known =
       ap (every unchanged) parts
-      ∙ every-append unchanged front (codeOf codes rule ++ end) known-front
-      (every-append unchanged (codeOf codes rule) end (every-take unchanged 6 (drop (6 * (rule - 20)) codes) (every-drop unchanged (6 * (rule - 20)) codes known)) known-end)
+      ∙ every-both unchanged front (codeOf codes rule ++ end) known-front
+      (every-both unchanged (codeOf codes rule) end (every-parted unchanged 6 (drop (6 * (rule - 20)) codes) (every-parted unchanged (6 * (rule - 20)) codes known .1) .0) known-end)
 
   amount-is : part (38 to 55) m8 ≡ amountOf t
   unfolding part

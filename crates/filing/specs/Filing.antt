@@ -1,13 +1,12 @@
 -- Document 02, A6 (RULES 9.10): M8 records, sentence by sentence. What is returned, and the list that names it, are A5's
 -- (demands/Sorting): `namedIn` of sorting/Kept is that list.
 use Prim.Native.Nat.{ℕ, zero, suc, _+_, _*_, _-_, _≤_, _<_}
-use Prim.Native.Char.{code}
 use mathlib.Core.Path.{_≡_}
 use mathlib.Core.Bool.{true}
 use mathlib.Core.List.{List, [], _∷_, _++_}
 use mathlib.Core.Logic.{_⊎_}
-use lib.ListN.{length, getD, take, drop, replicate}
-use Rattle.laws.specs.Ascii.{ascii}
+use lib.ListN.{length, getD, take, drop}
+use Rattle.laws.specs.Ascii.{ascii, zeros, spaces}
 use Rattle.charset.specs.Table.{unchanged, text}
 use Rattle.records.specs.Places.{_to_, part}
 use Rattle.records.specs.declared.QField.the-variants.{Q6, Q7}
@@ -35,16 +34,16 @@ pub record OfPayment (page : ℕ) (q codes t : List ℕ) (rule : ℕ) (m8 : List
   pub dm8-1 : part (0 to 0) m8 ≡ ascii "D"
   pub dm8-2 : part (1 to 2) m8 ≡ ascii "M8"
   pub dm8-3 : part (3 to 8) m8 ≡ inQ Q6 q
-  pub dm8-4 : part (9 to 13) m8 ≡ ascii "000" ++ inQ Q7 q
-  pub dm8-5 : part (14 to 20) m8 ≡ ascii "0000000"
-  pub dm8-6 : part (21 to 36) m8 ≡ replicate 16 (code " ")
-  pub dm8-7 : part (37 to 37) m8 ≡ ascii " "
-  pub dm8-8 : part (38 to 55) m8 ≡ ascii "00" ++ (inT T14a t ++ take 2 (inT T14b t))
+  pub dm8-4 : part (9 to 13) m8 ≡ zeros 3 ++ inQ Q7 q
+  pub dm8-5 : part (14 to 20) m8 ≡ zeros 7
+  pub dm8-6 : part (21 to 36) m8 ≡ spaces 16
+  pub dm8-7 : part (37 to 37) m8 ≡ spaces 1
+  pub dm8-8 : part (38 to 55) m8 ≡ zeros 2 ++ (inT T14a t ++ take 2 (inT T14b t))
   -- "six bytes for each rule from 20 to 35 in order"
   pub dm8-9 : part (56 to 61) m8 ≡ take 6 (drop (6 * (rule - 20)) codes)
   -- "as customer reference the first line of T15 after replacement"
   pub dm8-10 : part (62 to 96) m8 ≡ text page (take 35 (inT T15 t))
-  pub dm8-11 : part (97 to 123) m8 ≡ replicate 27 (code " ")
+  pub dm8-11 : part (97 to 123) m8 ≡ spaces 27
   pub whole : length m8 ≡ 124
 
 -- the first n records in the output

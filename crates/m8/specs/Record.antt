@@ -2,11 +2,10 @@
 -- seven zeros, 16 spaces, a space, two zeros, T14a and two digits of T14b, a six-byte code, as customer reference the first
 -- line of T15 after replacement, 27 spaces."
 use Prim.Native.Nat.{ℕ, _+_, _*_, _-_}
-use Prim.Native.Char.{code}
 use mathlib.Core.Path.{_≡_, refl}
 use mathlib.Core.List.{List, [], _∷_, _++_}
-use lib.ListN.{take, drop, replicate}
-use Rattle.laws.specs.Ascii.{ascii}
+use lib.ListN.{take, drop}
+use Rattle.laws.specs.Ascii.{ascii, zeros, spaces}
 use Rattle.charset.specs.Table.{text}
 use Rattle.records.specs.Places.{_to_, part, lineOf, tPlace}
 use Rattle.records.specs.declared.QField.the-variants.{Q6, Q7}
@@ -14,12 +13,6 @@ use Rattle.records.specs.declared.TField.the-variants.{T14a, T14b, T15}
 use Rattle.rules.specs.Q.{inQ}
 use Rattle.payments.specs.Rules.{inT}
 use Rattle.judge.specs.Records.{joined}
-
-abbrev pub zeros : ℕ → List ℕ
-zeros n = replicate n (code "0")
-
-abbrev pub spaces : ℕ → List ℕ
-spaces n = replicate n (code " ")
 
 -- "two zeros, T14a and two digits of T14b"
 abbrev pub amountOf : List ℕ → List ℕ

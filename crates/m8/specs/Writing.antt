@@ -5,7 +5,7 @@ use mathlib.Core.List.{List, [], _∷_, _++_, map, append-assoc}
 use native.Mathlib.Omega.{arith}
 use lib.Dec.{lit≤}
 use lib.ListN.{length, take, drop, length-append, length-map}
-use Rattle.laws.specs.Ascii.{ascii}
+use Rattle.laws.specs.Ascii.{ascii, zeros, spaces}
 use Rattle.charset.specs.Table.{rep, text}
 use Rattle.records.specs.Places.{_to_, part, lineOf, qPlace, tPlace}
 use Rattle.records.specs.Inside.{Held, held, inside, q-inside, t-inside}
@@ -21,7 +21,7 @@ use Rattle.forwarding.specs.Between.{between, between-long}
 use Rattle.forwarding.specs.Noted.{Noted, noted-is, noted-length, noted-append}
 use Rattle.place.specs.Placing.{backAs, copied}
 use Rattle.judge.specs.Records.{joined}
-use Rattle.m8.specs.Record.{zeros, spaces, amountOf, referenceOf, fields, m8Of, formats, together, long}
+use Rattle.m8.specs.Record.{amountOf, referenceOf, fields, m8Of, formats, together, long}
 
 -- pieces that are joined
 joined-long : (xs : List (List ℕ)) → length (joined xs) ≡ together (map length xs)

@@ -224,7 +224,7 @@ fn cramped_with(edge: &[u8], at: usize, text: &[u8]) {
     cramped(0, edge, &with(&two_broken(), at, text));
 }
 
-// Each refusal of the default way up to 43 comes before 62.
+// Each kind of refusal of the default way up to 43 comes before 62.
 fn before_62() {
     let file = two_broken();
     cramped(2, b"on page 2", &file);

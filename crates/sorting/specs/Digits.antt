@@ -3,7 +3,7 @@
 use Prim.Native.Nat.{ℕ, zero, suc, _+_, _*_, _^_, _-_, _/_, _%_, _<_}
 use Prim.Native.Char.{code}
 use mathlib.Core.Path.{_≡_, refl, sym, ap, ap₂, _∙_}
-use mathlib.Core.Bool.{Bool, true, _&&_, cond, and-true, and-assoc}
+use mathlib.Core.Bool.{Bool, true, _&&_, cond, and-true}
 use mathlib.Core.List.{List, [], _∷_, _++_}
 use native.Mathlib.Nat.{pow-suc, pow-zero}
 use native.Mathlib.Omega.{arith}
@@ -12,9 +12,9 @@ use lib.Dec.{leb}
 use lib.ListN.{length, take, getD, length-append}
 use lib.Seq.{take-suc, take-all, length-take-le}
 use Rattle.laws.specs.Choice.{both}
-use Rattle.fields.specs.Class.{member, every, allOf}
+use Rattle.fields.specs.Class.{member, allOf}
 use Rattle.fields.specs.Number.{digitOf, dec}
-use Rattle.fields.specs.Laws.{digit-lt}
+use Rattle.fields.specs.Laws.{every-append, digit-lt}
 use Rattle.fields.specs.declared.Class.the-variants.{Digit}
 use Rattle.judge.specs.Sums.{dec-append}
 use Rattle.sorting.specs.Kept.{digits}
@@ -33,10 +33,9 @@ digit-back b e =
     let w = both (leb 48 b) (leb b 57) e in
     ap (λ (t : Bool). 48 + cond t (b - 48) 0) e ∙ omega (arith, leb-true 48 b (w .0))
 
-every-append : (s t : List ℕ) → allOf Digit (s ++ t) ≡ allOf Digit s && allOf Digit t
+all-append : (s t : List ℕ) → allOf Digit (s ++ t) ≡ allOf Digit s && allOf Digit t
 unfolding allOf
-every-append [] t = refl
-every-append (x ∷ s) t = ap (λ (b : Bool). member Digit x && b) (every-append s t) ∙ sym (and-assoc (member Digit x) (every (member Digit) s) (every (member Digit) t))
+all-append s t = every-append (member Digit) s t
 
 all-one : (b : ℕ) → allOf Digit (b ∷ []) ≡ member Digit b
 unfolding allOf
@@ -59,7 +58,7 @@ pub digits-all : (w n : ℕ) → allOf Digit (digits w n) ≡ true
 unfolding allOf
 digits-all zero n = refl
 digits-all (suc w) n =
-    every-append (digits w (n / 10)) ((code "0" + n % 10) ∷ [])
+    all-append (digits w (n / 10)) ((code "0" + n % 10) ∷ [])
     ∙ ap₂ _&&_ (digits-all w (n / 10)) (all-one (code "0" + n % 10) ∙ is-digit (n % 10) (omega arith))
 
 -- what is written is read again
@@ -80,7 +79,7 @@ digits-dec (suc w) s l h =
     let split : s ≡ take w s ++ (b ∷ []) = sym (take-all (suc w) s (omega arith)) ∙ take-suc s w 0 (omega arith) in
     let front : length (take w s) ≡ w = length-take-le w s (omega arith) in
     let value : dec s ≡ dec (take w s) * 10 + digitOf b = ap dec split ∙ dec-more (take w s) b in
-    let w' = both (allOf Digit (take w s)) (allOf Digit (b ∷ [])) (sym (every-append (take w s) (b ∷ [])) ∙ ap (allOf Digit) (sym split) ∙ h) in
+    let w' = both (allOf Digit (take w s)) (allOf Digit (b ∷ [])) (sym (all-append (take w s) (b ∷ [])) ∙ ap (allOf Digit) (sym split) ∙ h) in
     let quotient : dec s / 10 ≡ dec (take w s) = omega (arith, value, digit-lt b) in
     let remainder : dec s % 10 ≡ digitOf b = omega (arith, value, digit-lt b) in
     ap₂ (λ (q r : ℕ). digits w q ++ ((code "0" + r) ∷ [])) quotient remainder
