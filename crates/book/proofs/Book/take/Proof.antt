@@ -1,0 +1,26 @@
+use borrow.Author.Needs.{needs}
+use mathlib.Core.Path.{_≡_, _∙_}
+use lib.ListN.{length}
+use Rattle.book.specs.Kept.{pair}
+use Rattle.book.specs.Laws.{unmapped, too-early, is-held, is-full, has-room, is-taken}
+use Rattle.book.proofs.Book.take.Statement.{statement}
+use Rattle.book.proofs.Book.take.Tie as tie
+
+long : (c : tie.After-struct-known) → length (c .before .args .self .places) ≡ 200
+long c = search (needs, unmapped)
+
+pub take-spec : {M : Type 1} → statement M
+take-spec =
+    tie.close
+    (tie.spec
+    (λ c κs. search needs)
+    (λ c. c .answer .ensures ∙ too-early _ _ (c .before .if1 .taken))
+    (λ c κs. search needs)
+    (λ c κs. search needs)
+    (λ c κs. search needs)
+    (λ c. c .answer2 .ensures ∙ is-held _ _ (c .before .before .before .before .if1 .left) (c .before .before .before .on .ensures) (c .before .before .holds .ensures) (c .before .if2 .taken))
+    (λ c κs. search needs)
+    (λ c. c .answer3 .ensures ∙ is-full _ _ (c .before .before .before .before .before .before .if1 .left) (c .before .before .before .before .before .on .ensures) (c .before .before .before .before .holds .ensures) (c .before .before .before .if2 .left) (c .before .if3 .taken))
+    (λ c κs. has-room (c .before .before .before .before .before .before .before .args .self) (pair (c .before .before .before .before .before .before .before .args .number) (c .before .before .before .before .before .before .before .args .day)) (c .before .before .before .before .before .if1 .left) (c .before .before .before .before .on .ensures) (c .before .before .before .holds .ensures) (long (c .before .before .before .before .before .before)) (c .if3 .left))
+    (λ c κs. search needs)
+    (λ c. c .answer4 .ensures ∙ is-taken _ _ (c .before .before .before .before .before .before .before .if1 .left) (c .before .before .before .before .before .before .on .ensures) (c .before .before .before .before .before .holds .ensures) (long (c .before .before .before .before .before .before .before .before)) (c .before .before .if3 .left) (c .before .before .before .before .if2 .left) (c .before .with .ensures)))

@@ -1,0 +1,3 @@
+pub mod Model
+pub mod Kept
+pub mod Laws

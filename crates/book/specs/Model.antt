@@ -1,0 +1,45 @@
+-- Document 02, A7 (RULES 9.11): the book of taken files "answers as a plain set of pairs of number and day would". An entry
+-- is such a pair, and so is what a take asks for: to take this number on this day.
+use Prim.Native.Nat.{ℕ, _-_}
+use mathlib.Core.Bool.{Bool, cond}
+use mathlib.Core.List.{List, [], _∷_, _++_}
+use lib.Dec.{eqb, leb, ltb}
+use lib.ListN.{length}
+use Rattle.fields.specs.Lists.{some}
+use Rattle.book.specs.declared.Entry.{Entry}
+
+-- "forgotten once the day is five or more later"
+abbrev pub isForgotten : ℕ → Entry → Bool
+isForgotten day e = leb 5 (day - e .day)
+
+-- the pairs that are not forgotten on a day
+abbrev pub heldOn : ℕ → List Entry → List Entry
+heldOn day [] = []
+heldOn day (e ∷ es) = cond (isForgotten day e) (heldOn day es) (e ∷ heldOn day es)
+
+abbrev pub holds : ℕ → List Entry → Bool
+holds number es = some (λ (e : Entry). eqb (e .number) number) es
+
+-- the pairs, and the day of the last take that was not refused
+pub record Model : Type 0 where
+  pub day : ℕ
+  pub held : List Entry
+
+abbrev pub model : ℕ → List Entry → Model
+model day held = record { day = day; held = held }
+
+-- "A new book is on day 0"
+abbrev pub empty : Model
+empty = model 0 []
+
+-- "Refusals, in order: 52 for a day earlier than the book's, 50 for a held number after forgetting, 51 exactly when 200 are
+-- then still held." 0 is no refusal
+unfoldable pub answerOf : Model → Entry → ℕ
+answerOf m e =
+    cond (ltb (e .day) (m .day)) 52
+    (cond (holds (e .number) (heldOn (e .day) (m .held))) 50
+    (cond (eqb (length (heldOn (e .day) (m .held))) 200) 51 0))
+
+-- "A refused call leaves the book, its day included, unchanged."
+unfoldable pub after : Model → Entry → Model
+after m e = cond (eqb (answerOf m e) 0) (model (e .day) (heldOn (e .day) (m .held) ++ (e ∷ []))) m

@@ -1,0 +1,147 @@
+// The book of taken files. A book is a value: it is handed in with each take, and comes back with the answer.
+ghost use mathlib.Core.Path.{_≡_};
+ghost use mathlib.Core.List.{[], _∷_, _++_};
+ghost use Prim.Native.Nat.{_+_, _≤_, _<_, min};
+ghost use lib.ListN.{take};
+ghost use Rattle.book.specs.Model.{model, isForgotten, holds};
+ghost use Rattle.book.specs.Kept.{pair, bookOf, answered, onDay, withEntry, unlessForgotten, NewAs, TookAs};
+
+// A file's number, and the business day on which it was taken.
+#[repr(C)]
+pub struct Entry {
+    pub number: u64,
+    pub day: u32,
+}
+
+#[repr(C)]
+pub struct Book {
+    // The day of the last take that was not refused; of a new book, 0.
+    pub day: u32,
+    // How many numbers are held: the first so many places.
+    pub held: usize,
+    pub places: [Entry; 200],
+}
+
+// What a take answers, 0 or the number of a refusal, and the book after it.
+#[repr(C)]
+pub struct Taken {
+    pub book: Book,
+    pub number: usize,
+}
+
+// The days are subtracted: a sum could exceed the last day.
+fn is_forgotten(entry: Entry, day: u32) -> bool
+    ensures { λ r. ⌜ r ≡ isForgotten day entry ⌝ }
+{
+    let taken = entry.day;
+    if day < taken {
+        return false;
+    }
+    5 <= day - taken
+}
+
+fn answer(book: Book, number: usize) -> Taken
+    ensures { λ r. ⌜ r ≡ answered book number ⌝ }
+{
+    Taken { book, number }
+}
+
+impl Book {
+    // The book of a day on which nothing is held.
+    fn empty(day: u32) -> Self
+        ensures { λ r. ⌜ r ≡ bookOf (model day []) ⌝ }
+    {
+        let none = Entry { number: 0, day: 0 };
+        Self {
+            day,
+            held: 0,
+            places: [none; 200],
+        }
+    }
+
+    pub fn new() -> Self
+        ensures { λ r. ⌜ NewAs r ⌝ }
+    {
+        Self::empty(0)
+    }
+
+    // One more entry, in the place behind those that are held.
+    fn with(mut self, entry: Entry) -> Self
+        requires { ⌜ self .held < 200 ⌝ }
+        ensures { λ r. ⌜ r ≡ withEntry self entry ⌝ }
+    {
+        let at = self.held;
+        self.places[at] = entry;
+        self.held = at + 1;
+        self
+    }
+
+    // The same, unless it is forgotten.
+    fn keep(self, entry: Entry) -> Self
+        requires { ⌜ self .held < 200 ⌝ }
+        ensures { λ r. ⌜ r ≡ unlessForgotten self entry ⌝ }
+    {
+        if is_forgotten(entry, self.day) {
+            return self;
+        }
+        self.with(entry)
+    }
+
+    // How many places hold a number, whatever the book says.
+    fn filled(self) -> usize
+        ensures { λ r. ⌜ r ≡ min 200 (self .held) ⌝ }
+    {
+        let held = self.held;
+        if 200 < held {
+            return 200;
+        }
+        held
+    }
+
+    // The book on a day, without what is forgotten by then.
+    fn on(self, day: u32) -> Self
+        ensures { λ r. ⌜ r ≡ onDay self day ⌝ }
+    {
+        let old = self.places;
+        let end = self.filled();
+        let mut kept = Self::empty(day);
+        let mut i = 0;
+        while i < end {
+            kept = kept.keep(old[i]);
+            i = i + 1;
+        }
+        kept
+    }
+
+    fn holds(self, number: u64) -> bool
+        ensures { λ r. ⌜ r ≡ holds number (take (self .held) (self .places)) ⌝ }
+    {
+        let places = self.places;
+        let end = self.filled();
+        let mut found = false;
+        let mut i = 0;
+        while i < end {
+            let entry = places[i];
+            found = found | (entry.number == number);
+            i = i + 1;
+        }
+        found
+    }
+
+    pub fn take(self, number: u64, day: u32) -> Taken
+        ensures { λ r. ⌜ TookAs self (pair number day) r ⌝ }
+    {
+        if day < self.day {
+            return answer(self, 52);
+        }
+        let kept = self.on(day);
+        if kept.holds(number) {
+            return answer(self, 50);
+        }
+        if kept.held == 200 {
+            return answer(self, 51);
+        }
+        let entry = Entry { number, day };
+        answer(kept.with(entry), 0)
+    }
+}
