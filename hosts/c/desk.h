@@ -62,6 +62,8 @@ enum desk_number {
     DESK_Z3 = 42,                  /* Z3 is not the sum of all T14a */
     DESK_ALL_RETURNED = 43,        /* every payment would be returned */
     DESK_TAKEN = 50,               /* the file number is a taken one */
+    DESK_BOOK_FULL = 51,           /* book: 200 numbers are held */
+    DESK_EARLIER_DAY = 52,         /* book: the day is earlier than the book's */
     DESK_OUTPUT_ROOM = 60,         /* output room shorter than the file that goes on or is restored, or than the M8 records */
     DESK_NOTE_ROOM = 61,           /* more changes in the file that goes on than note places */
     DESK_CODE_TABLE = 62,          /* the table of M8 codes is not 96 bytes */
@@ -83,6 +85,15 @@ typedef struct { uint64_t start, length; } desk_part;
 /* A reader is a value, which may be copied and kept. What is in it is the desk's own, and a newer desk may have another. */
 typedef struct { uint64_t own[118]; } desk_reader;
 typedef struct { desk_reader reader; desk_answer answer; } desk_read;
+
+/* A file number in a book, and the business day on which it was taken. */
+typedef struct { uint64_t number; uint32_t day; } desk_entry;
+
+/* A book of taken file numbers is a value, which may be copied and kept: the day of the last take that was not refused, how
+   many numbers are held, and the places; the first so many hold them, in the order in which they were taken. */
+enum { DESK_BOOK_PLACES = 200 };
+typedef struct { uint32_t day; uint64_t held; desk_entry places[DESK_BOOK_PLACES]; } desk_book;
+typedef struct { desk_book book; uint64_t number; } desk_taken;
 
 /* Judges a file on page 0 (DIN 66003) without taken numbers: record * 100 + number; 0 for a sound file. For a file in ISO
    8859-1 there is desk_judge_full with page 1; here its umlauts would be read as spaces.
@@ -179,6 +190,23 @@ desk_restored desk_restore(uint32_t page, const uint8_t *forwarded, size_t n, co
 /* Where a text field stands in a file: 1 Q5 of record 0; 2 T8, 3 T9b, 4 T10b, 5 T12, 6 T15, 7 T20, 8 T23, 9 T24 of a T
    record. Length 0 (and start 0): the structure is broken, the record doesn't exist, or it has no such field. */
 desk_part desk_show(const uint8_t *file, size_t n, uint64_t record, uint64_t field);
+
+/* The book of taken file numbers. A file's number is its Q4, Q6 and Q7 as one number (docs/RULES.md, 5.6); a day is a business
+   day, which the host counts, from 0 up to 4,294,967,295. A number that was taken on a day is forgotten once the day is five
+   or more later: one that was taken on day 7 is held through day 11, and may be taken again on day 12. There are 200 places,
+   and those of forgotten numbers are used again. A new book is on day 0 and holds nothing.
+       desk_book book = desk_book_new();
+       desk_taken taken = desk_book_take(book, file_number, day);
+       if (taken.number == 0) book = taken.book; else ..;
+   Number 0: the number is taken, the book is on that day, and what was forgotten by then is gone from it. Refused, in this
+   order: 52 where the day is earlier than the book's; 50 where the number is held on that day; 51 where 200 others are. A
+   refused take gives back the very book that was handed in, with its day: it forgets nothing, and the next take may be on any
+   day from the book's on. A call changes no book in place.
+   Any book may be handed in. Where held is more than 200, all places count. What no take leaves, such as a number twice or a
+   day later than the book's, is read as it stands: a number with a later day is held. Behind the held numbers a take that was
+   not refused leaves zeros. Books have padding, so compare them by their fields. */
+desk_book desk_book_new(void);
+desk_taken desk_book_take(desk_book book, uint64_t file_number, uint32_t day);
 
 #ifdef __cplusplus
 }

@@ -8,7 +8,7 @@ use lib.ListN.{length, take, set, replicate}
 use Rattle.book.specs.declared.Entry.{Entry}
 use Rattle.book.specs.declared.Book.{Book}
 use Rattle.book.specs.declared.Taken.{Taken}
-use Rattle.book.specs.Model.{Model, model, empty, isForgotten, heldOn, answerOf, after}
+use Rattle.book.specs.Model.{Model, model, empty, heldOn, answerOf, after}
 
 abbrev pub pair : ℕ → ℕ → Entry
 pair number day = record { number = number; day = day }
@@ -38,19 +38,15 @@ unfoldable pub tookOf : Book → Entry → Taken
 tookOf b e = answered (cond (eqb (answerOf (modelOf b) e) 0) (bookOf (after (modelOf b) e)) b) (answerOf (modelOf b) e)
 
 -- what is promised of a new book and of a take
-abbrev pub NewAs : Book → Type 0
-NewAs b = b ≡ newOf
+abbrev pub NewBookAs : Book → Type 0
+NewBookAs b = b ≡ newOf
 
 abbrev pub TookAs : Book → Entry → Taken → Type 0
 TookAs b e taken = taken ≡ tookOf b e
 
--- what the inner functions promise: the book on a day, without what is forgotten by then; with one entry more; and that
--- unless the entry is forgotten
+-- what the inner functions promise: the book on a day, without what is forgotten by then; and with one entry more
 abbrev pub onDay : Book → ℕ → Book
 onDay b day = bookOf (model day (heldOn day (heldIn b)))
 
 abbrev pub withEntry : Book → Entry → Book
 withEntry b e = record { day = b .day; held = b .held + 1; places = set (b .places) (b .held) e }
-
-abbrev pub unlessForgotten : Book → Entry → Book
-unlessForgotten b e = cond (isForgotten (b .day) e) b (withEntry b e)

@@ -15,7 +15,7 @@ use Rattle.book.specs.declared.Entry.{Entry}
 use Rattle.book.specs.declared.Book.{Book}
 use Rattle.book.specs.declared.Taken.{Taken}
 use Rattle.book.specs.Model.{Model, model, isForgotten, heldOn, holds, answerOf, after}
-use Rattle.book.specs.Kept.{pair, heldIn, modelOf, placesOf, bookOf, answered, tookOf, onDay, withEntry, unlessForgotten}
+use Rattle.book.specs.Kept.{pair, heldIn, modelOf, placesOf, bookOf, answered, tookOf, onDay, withEntry}
 
 -- a list has the length of what is made of it element by element
 pub unmapped : (B : Type 0) (f : Entry → B) (es : List Entry) (n : ℕ) → length (map f es) ≡ n → length es ≡ n
@@ -56,8 +56,11 @@ module _ (day : ℕ) (es : List Entry) (e : Entry) (few : length es < 200) where
   with-entry i = record { day = day; held = one-more i; places = placed i }
 
 -- the same unless it is forgotten
-pub keeps : (day : ℕ) (es : List Entry) (e : Entry) → length es < 200
-    → unlessForgotten (bookOf (model day (heldOn day es))) e ≡ bookOf (model day (heldOn day (es ++ (e ∷ []))))
+abbrev pub unlessForgotten : ℕ → Book → Entry → Book
+unlessForgotten day b e = cond (isForgotten day e) b (withEntry b e)
+
+keeps : (day : ℕ) (es : List Entry) (e : Entry) → length es < 200
+    → unlessForgotten day (bookOf (model day (heldOn day es))) e ≡ bookOf (model day (heldOn day (es ++ (e ∷ []))))
 keeps day es e few =
     go (isForgotten day e) (with-entry day (heldOn day es) e (omega (arith, held-few day es)))
     ∙ ap (λ (hs : List Entry). bookOf (model day hs)) (sym (held-append day es (e ∷ [])))
@@ -80,7 +83,7 @@ module _ (es : List Entry) (i : ℕ) (d : Entry) (in-list : i < length es) where
       ∙ ap (holds number) next
 
   pub keeps-next : (day : ℕ) → i < 200
-      → unlessForgotten (bookOf (model day (heldOn day (take i es)))) (getD es i d) ≡ bookOf (model day (heldOn day (take (i + 1) es)))
+      → unlessForgotten day (bookOf (model day (heldOn day (take i es)))) (getD es i d) ≡ bookOf (model day (heldOn day (take (i + 1) es)))
   keeps-next day few =
       keeps day (take i es) (getD es i d) (omega (arith, length-take i es))
       ∙ ap (λ (xs : List Entry). bookOf (model day (heldOn day xs))) next

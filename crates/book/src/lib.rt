@@ -4,7 +4,7 @@ ghost use mathlib.Core.List.{[], _∷_, _++_};
 ghost use Prim.Native.Nat.{_+_, _≤_, _<_, min};
 ghost use lib.ListN.{take};
 ghost use Rattle.book.specs.Model.{model, isForgotten, holds};
-ghost use Rattle.book.specs.Kept.{pair, bookOf, answered, onDay, withEntry, unlessForgotten, NewAs, TookAs};
+ghost use Rattle.book.specs.Kept.{pair, bookOf, answered, onDay, withEntry, NewBookAs, TookAs};
 
 // A file's number, and the business day on which it was taken.
 #[repr(C)]
@@ -60,7 +60,7 @@ impl Book {
     }
 
     pub fn new() -> Self
-        ensures { λ r. ⌜ NewAs r ⌝ }
+        ensures { λ r. ⌜ NewBookAs r ⌝ }
     {
         Self::empty(0)
     }
@@ -74,17 +74,6 @@ impl Book {
         self.places[at] = entry;
         self.held = at + 1;
         self
-    }
-
-    // The same, unless it is forgotten.
-    fn keep(self, entry: Entry) -> Self
-        requires { ⌜ self .held < 200 ⌝ }
-        ensures { λ r. ⌜ r ≡ unlessForgotten self entry ⌝ }
-    {
-        if is_forgotten(entry, self.day) {
-            return self;
-        }
-        self.with(entry)
     }
 
     // How many places hold a number, whatever the book says.
@@ -107,7 +96,12 @@ impl Book {
         let mut kept = Self::empty(day);
         let mut i = 0;
         while i < end {
-            kept = kept.keep(old[i]);
+            let entry = old[i];
+            if !is_forgotten(entry, day) {
+                let at = kept.held;
+                kept.places[at] = entry;
+                kept.held = at + 1;
+            }
             i = i + 1;
         }
         kept

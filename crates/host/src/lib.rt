@@ -1,4 +1,6 @@
 // The calls for hosts in C. Lent slices pass as pointer and count.
+use book::Book;
+use book::Taken;
 use judge::Verdict;
 use m8::Filed;
 use prepare::Prepared;
@@ -12,6 +14,7 @@ ghost use Rattle.prepare.specs.Prepared.{PreparedAs};
 ghost use Rattle.prepare.specs.Default.{DefaultAs};
 ghost use Rattle.restore.specs.Restored.{RestoredAs};
 ghost use Rattle.m8.specs.Filed.{FiledAs};
+ghost use Rattle.book.specs.Kept.{pair, NewBookAs, TookAs};
 ghost use Rattle.host.specs.Answers.{CodedAs, PlacedAs};
 
 // The judge of document 01 for payroll hosts: page 0, no taken numbers, record × 100 + number.
@@ -138,4 +141,19 @@ pub extern "C" fn desk_show(file: &[u8], rec: usize, field: usize) -> Part
         start,
         length: s.end - start,
     }
+}
+
+// A book is a value too.
+#[no_mangle]
+pub extern "C" fn desk_book_new() -> Book
+    ensures { λ r. ⌜ NewBookAs r ⌝ }
+{
+    Book::new()
+}
+
+#[no_mangle]
+pub extern "C" fn desk_book_take(book: Book, number: u64, day: u32) -> Taken
+    ensures { λ r. ⌜ TookAs book (pair number day) r ⌝ }
+{
+    book.take(number, day)
 }

@@ -1,14 +1,16 @@
 use borrow.Author.Needs.{needs}
 use native.Mathlib.Omega.{arith}
 use Prim.Native.Nat.{_-_, _≤_, _<_, min}
-use mathlib.Core.Path.{_≡_, refl, ap, _∙_}
+use mathlib.Core.Path.{_≡_, ap, _∙_}
 use mathlib.Core.List.{List}
+use mathlib.Core.Logic.{⊎-elim}
 use lib.ListN.{length, getD, take, length-take}
+use Rattle.laws.specs.Choice.{on-not, off-not}
 use Rattle.book.specs.Model.{model, heldOn}
 use Rattle.book.specs.declared.Entry.{Entry}
 use Rattle.book.specs.declared.Book.{Book}
-use Rattle.book.specs.Kept.{pair, bookOf, unlessForgotten}
-use Rattle.book.specs.Laws.{unmapped, held-few, keeps-next, filled}
+use Rattle.book.specs.Kept.{pair, bookOf}
+use Rattle.book.specs.Laws.{unmapped, held-few, unlessForgotten, keeps-next, filled}
 use Rattle.book.proofs.Book.on.Statement.{statement}
 use Rattle.book.proofs.Book.on.Tie as tie
 
@@ -24,12 +26,22 @@ long c = search (needs, unmapped)
 few : (c : tie.In-loop Inv-loop μ-loop) → c .before .loop .i < 200
 few c = omega (arith, c .before .loop .inv .1, c .loop-test .taken)
 
+-- a place is free: no more are kept than were looked at
+room : (c : tie.In-loop Inv-loop μ-loop) → c .before .loop .kept .held < 200
+room c =
+    let l = c .before .loop in
+    let a = c .before .before .before .before .before .args in
+    omega (arith, few c, ap (λ (b : Book). b .held) (l .inv .2), held-few (a .day) (take (l .i) (a .self .places)), length-take (l .i) (a .self .places))
+
 loop-again : tie.Need-loop-again Inv-loop μ-loop
 loop-again c =
-    let l = c .before .before .before .loop in
-    let a = c .before .before .before .before .before .before .before .args in
-    let step = keeps-next (a .self .places) (l .i) (pair 0 0) (omega (arith, long (c .before .before .before .before .before .before), few (c .before .before))) (a .day) (few (c .before .before)) in
-    (omega (arith, c .before .before .loop-test .taken), l .inv .1, c .keep .ensures ∙ ap (λ (b : Book). unlessForgotten b (getD (a .self .places) (l .i) (pair 0 0))) (l .inv .2) ∙ step)
+    let l = c .before .before .before .before .loop in
+    let a = c .before .before .before .before .before .before .before .before .args in
+    let e = getD (a .self .places) (l .i) (pair 0 0) in
+    let step = keeps-next (a .self .places) (l .i) (pair 0 0) (omega (arith, few (c .before .before .before), long (c .before .before .before .before .before .before .before))) (a .day) (few (c .before .before .before)) in
+    let kept : c .if1 .kept ≡ unlessForgotten (a .day) (l .kept) e =
+    ⊎-elim (λ w. off-not _ (c .before .is-forgotten .ensures) (w .0 .taken) (w .1)) (λ w. on-not _ (c .before .is-forgotten .ensures) (w .0 .left) (w .1)) (c .if1 .came) in
+    (omega (arith, c .before .before .before .loop-test .taken), l .inv .1, kept ∙ ap (λ (b : Book). unlessForgotten (a .day) b e) (l .inv .2) ∙ step)
 
 returns : tie.Need-returns Inv-loop μ-loop
 returns c =
@@ -49,7 +61,10 @@ on-spec =
     (λ c. (search needs, omega (arith, c .before .filled .ensures), c .empty .ensures))
     (λ c. record { fits = omega (arith, few c) })
     (λ c. few c)
-    (λ c κs. omega (arith, few (c .before), ap (λ (b : Book). b .held) (c .before .before .loop .inv .2), held-few (c .before .before .before .before .before .before .args .day) (take (c .before .before .loop .i) (c .before .before .before .before .before .before .args .self .places)), length-take (c .before .before .loop .i) (c .before .before .before .before .before .before .args .self .places)))
+    (λ c κs. search needs)
+    (λ c. record { fits = omega (arith, room (c .before .before .before)) })
+    (λ c. room (c .before .before .before))
+    (λ c. record { fits = omega (arith, room (c .before .before .before)) })
     (λ c. search needs)
     (λ c. search needs)
     loop-again
