@@ -1,10 +1,12 @@
 // The book of taken files. A book is a value: it is handed in with each take, and comes back with the answer.
 ghost use mathlib.Core.Path.{_≡_};
-ghost use mathlib.Core.List.{[], _∷_, _++_};
-ghost use Prim.Native.Nat.{_+_, _≤_, _<_, min};
+ghost use mathlib.Core.List.{[]};
+ghost use Prim.Native.Nat.{_<_, min};
 ghost use lib.ListN.{take};
 ghost use Rattle.book.specs.Model.{model, isForgotten, holds};
 ghost use Rattle.book.specs.Kept.{pair, bookOf, answered, onDay, withEntry, NewBookAs, TookAs};
+
+const PLACES: usize = 200;
 
 // A file's number, and the business day on which it was taken.
 #[repr(C)]
@@ -19,7 +21,7 @@ pub struct Book {
     pub day: u32,
     // How many numbers are held: the first so many places.
     pub held: usize,
-    pub places: [Entry; 200],
+    pub places: [Entry; PLACES],
 }
 
 // What a take answers, 0 or the number of a refusal, and the book after it.
@@ -55,7 +57,7 @@ impl Book {
         Self {
             day,
             held: 0,
-            places: [none; 200],
+            places: [none; PLACES],
         }
     }
 
@@ -81,8 +83,8 @@ impl Book {
         ensures { λ r. ⌜ r ≡ min 200 (self .held) ⌝ }
     {
         let held = self.held;
-        if 200 < held {
-            return 200;
+        if PLACES < held {
+            return PLACES;
         }
         held
     }
@@ -102,7 +104,7 @@ impl Book {
                 kept.places[at] = entry;
                 kept.held = at + 1;
             }
-            i = i + 1;
+            i += 1;
         }
         kept
     }
@@ -117,7 +119,7 @@ impl Book {
         while i < end {
             let entry = places[i];
             found = found | (entry.number == number);
-            i = i + 1;
+            i += 1;
         }
         found
     }
@@ -132,7 +134,7 @@ impl Book {
         if kept.holds(number) {
             return answer(self, 50);
         }
-        if kept.held == 200 {
+        if kept.held == PLACES {
             return answer(self, 51);
         }
         let entry = Entry { number, day };

@@ -1,0 +1,217 @@
+-- A book answers as the model does, and the model as a plain set.
+use Prim.Native.Nat.{ℕ, _+_, _-_, _≤_, _<_}
+use mathlib.Core.Path.{_≡_, refl, sym, ap, ap₂, subst, _∙_}
+use mathlib.Core.Bool.{Bool, true, false, _||_, not, cond, false≢true}
+use mathlib.Core.List.{List, [], _∷_, _++_}
+use mathlib.Core.Logic.{_⊎_, inl, inr, _↔_}
+use native.Mathlib.Omega.{arith}
+use borrow.Author.Tests.{eqb-true, eqb-false, ltb-true, ltb-false, leb-true, leb-false, lt-leb, eq-eqb}
+use lib.Dec.{eqb, leb, ltb}
+use lib.ListN.{length, replicate}
+use Rattle.laws.specs.Choice.{on, off, on-eq, off-eq, on-lt, off-lt}
+use Rattle.laws.specs.Steps.{fold}
+use Rattle.fields.specs.Laws.{some-append}
+use Rattle.book.specs.declared.Entry.{Entry}
+use Rattle.book.specs.declared.Book.{Book}
+use Rattle.book.specs.declared.Taken.{Taken}
+use Rattle.book.specs.Model.{Model, model, empty, isForgotten, heldOn, holds, answerOf, after}
+use Rattle.book.specs.Kept.{pair, heldIn, modelOf, bookOf, newOf, tookOf, NewBookAs, TookAs}
+use Rattle.book.specs.Laws.{held-append, held-is}
+use Rattle.keeping.specs.Keeping.{TookAll, Takes, answersBy, AnswersAsModel, noted, AnswersAsPlainSet, HeldFiveDays, RefusedKeepsBook, TakeNumbers, TakesRebuild, NewBookSettled, TakeSettled}
+use Rattle.keeping.proofs.Forgetting.{held-later, held-turned, holds-not}
+
+same-model : (m : Model) → modelOf (bookOf m) ≡ m
+same-model m i = model (m .day) (held-is m i)
+
+-- what each answer means
+module _ (m : Model) (e : Entry) where
+  pub record Accepted : Type 0 where
+    pub early : m .day ≤ e .day
+    pub free : holds (e .number) (heldOn (e .day) (m .held)) ≡ false
+    pub room : length (heldOn (e .day) (m .held)) ≡ 200 → ⊥
+
+  abbrev Means : ℕ → Type 0
+  Means n =
+      (n ≡ 52) ⊎ (((n ≡ 50) × (holds (e .number) (heldOn (e .day) (m .held)) ≡ true)) ⊎ ((n ≡ 51) ⊎ ((n ≡ 0) × Accepted)))
+
+  means : Means (answerOf m e)
+  unfolding answerOf
+  means = go (ltb (e .day) (m .day)) (holds (e .number) (heldOn (e .day) (m .held))) (eqb (length (heldOn (e .day) (m .held))) 200) refl refl refl
+    where
+      go : (x y z : Bool) → ltb (e .day) (m .day) ≡ x → holds (e .number) (heldOn (e .day) (m .held)) ≡ y → eqb (length (heldOn (e .day) (m .held))) 200 ≡ z
+          → Means (cond x 52 (cond y 50 (cond z 51 0)))
+      go true y z p q r = inl refl
+      go false true z p q r = inr (inl (refl, q))
+      go false false true p q r = inr (inr (inl refl))
+      go false false false p q r =
+          inr (inr (inr (refl, record { early = ltb-false (e .day) (m .day) p; free = q; room = eqb-false (length (heldOn (e .day) (m .held))) 200 r })))
+
+  pub accepted : answerOf m e ≡ 0 → Accepted
+  accepted z = go means
+    where
+      go : Means (answerOf m e) → Accepted
+      go (inl p) = absurd (omega (arith, p, z))
+      go (inr (inl p)) = absurd (omega (arith, p .0, z))
+      go (inr (inr (inl p))) = absurd (omega (arith, p, z))
+      go (inr (inr (inr p))) = p .1
+
+-- a take of the book of a model
+module _ (m : Model) (e : Entry) where
+  pub refused-stays : eqb (answerOf m e) 0 ≡ false → after m e ≡ m
+  unfolding after
+  refused-stays h = sym (off _ h refl)
+
+  pub taken-is : eqb (answerOf m e) 0 ≡ true → after m e ≡ model (e .day) (heldOn (e .day) (m .held) ++ (e ∷ []))
+  unfolding after
+  taken-is h = sym (on _ h refl)
+
+  took-number : tookOf (bookOf m) e .number ≡ answerOf m e
+  unfolding tookOf
+  took-number = ap (λ (x : Model). answerOf x e) (same-model m)
+
+  took-book : tookOf (bookOf m) e .book ≡ bookOf (after m e)
+  unfolding tookOf
+  took-book = ap (λ (x : Model). cond (eqb (answerOf x e) 0) (bookOf (after x e)) (bookOf m)) (same-model m) ∙ go (eqb (answerOf m e) 0) refl
+    where
+      go : (b : Bool) → eqb (answerOf m e) 0 ≡ b → cond b (bookOf (after m e)) (bookOf m) ≡ bookOf (after m e)
+      go true h = refl
+      go false h = ap bookOf (sym (refused-stays h))
+
+all-from : (m : Model) (b : Book) (es : List Entry) (answers : List ℕ) (last : Book) → b ≡ bookOf m → TookAll b es answers last
+    → (answers ≡ answersBy after m es) × (last ≡ bookOf (fold after m es))
+all-from m b [] answers last p t = (t .0, t .1 ∙ p)
+all-from m b (e ∷ es) answers last p (taken, took, rest, is, more) =
+    let number : taken .number ≡ answerOf m e = ap (λ (x : Taken). x .number) took ∙ ap (λ (x : Book). tookOf x e .number) p ∙ took-number m e in
+    let book : taken .book ≡ bookOf (after m e) = ap (λ (x : Taken). x .book) took ∙ ap (λ (x : Book). tookOf x e .book) p ∙ took-book m e in
+    let then = all-from (after m e) (taken .book) es rest last book more in
+    (is ∙ ap₂ (λ (n : ℕ) (ns : List ℕ). n ∷ ns) number (then .0), then .1)
+
+pub all-takes : (es : List Entry) (answers : List ℕ) (last : Book) → Takes es answers last
+    → (answers ≡ answersBy after empty es) × (last ≡ bookOf (fold after empty es))
+unfolding newOf
+all-takes es answers last t = all-from empty (t .first) es answers last (t .new) (t .all)
+
+pub answers-as-model : AnswersAsModel
+answers-as-model es answers last t =
+    let a = all-takes es answers last t in
+    (a .0, ap modelOf (a .1) ∙ same-model (fold after empty es))
+
+-- a model that forgets, and one that notes all: on the same day, and from it on they hold the same
+pub record Alike (m all : Model) : Type 0 where
+  pub days : m .day ≡ all .day
+  pub later : (day : ℕ) → m .day ≤ day → heldOn day (m .held) ≡ heldOn day (all .held)
+
+module _ (m all : Model) (alike : Alike m all) (e : Entry) where
+  same-answer : answerOf m e ≡ answerOf all e
+  unfolding answerOf
+  same-answer = go (ltb (e .day) (m .day)) refl
+    where
+      inner : List Entry → ℕ
+      inner held = cond (holds (e .number) held) 50 (cond (eqb (length held) 200) 51 0)
+
+      go : (b : Bool) → ltb (e .day) (m .day) ≡ b
+          → cond b 52 (inner (heldOn (e .day) (m .held))) ≡ cond (ltb (e .day) (all .day)) 52 (inner (heldOn (e .day) (all .held)))
+      go true h = on _ (ap (ltb (e .day)) (sym (alike .days)) ∙ h) refl
+      go false h = off _ (ap (ltb (e .day)) (sym (alike .days)) ∙ h) (ap inner (alike .later (e .day) (ltb-false (e .day) (m .day) h)))
+
+  still-alike : Alike (after m e) (noted all e)
+  still-alike = go (eqb (answerOf m e) 0) refl
+    where
+      one : List Entry
+      one = e ∷ []
+
+      go : (b : Bool) → eqb (answerOf m e) 0 ≡ b → Alike (after m e) (noted all e)
+      go false h =
+          subst (λ (x : Model). Alike x (noted all e)) (sym (refused-stays m e h))
+          (subst (Alike m) (off _ (ap (λ (n : ℕ). eqb n 0) (sym same-answer) ∙ h) refl) alike)
+      go true h =
+          let early : m .day ≤ e .day = accepted m e (eqb-true (answerOf m e) 0 h) .early in
+          subst (λ (x : Model). Alike x (noted all e)) (sym (taken-is m e h))
+          (subst (Alike (model (e .day) (heldOn (e .day) (m .held) ++ one))) (on _ (ap (λ (n : ℕ). eqb n 0) (sym same-answer) ∙ h) refl)
+          record {
+            days = refl;
+            later = λ day l.
+                held-append day (heldOn (e .day) (m .held)) one
+                ∙ ap (λ (xs : List Entry). xs ++ heldOn day one) (held-later (e .day) day l (m .held) ∙ alike .later day (omega (arith, early, l)))
+                ∙ sym (held-append day (all .held) one);
+          })
+
+plain-from : (m all : Model) → Alike m all → (es : List Entry) → answersBy after m es ≡ answersBy noted all es
+plain-from m all alike [] = refl
+plain-from m all alike (e ∷ es) =
+    ap₂ (λ (n : ℕ) (ns : List ℕ). n ∷ ns) (same-answer m all alike e) (plain-from (after m e) (noted all e) (still-alike m all alike e) es)
+
+pub answers-as-plain-set : AnswersAsPlainSet
+answers-as-plain-set es answers last t =
+    all-takes es answers last t .0 ∙ plain-from empty empty record { days = refl; later = λ day l. refl } es
+
+pub refused-keeps-book : RefusedKeepsBook
+unfolding tookOf
+refused-keeps-book b e taken took z =
+    ap (λ (x : Taken). x .book) took ∙ sym (off-eq _ (λ n. z (ap (λ (x : Taken). x .number) took ∙ n)) refl)
+
+pub take-numbers : TakeNumbers
+unfolding tookOf
+take-numbers b e taken took = subst Numbers (sym (ap (λ (x : Taken). x .number) took)) (go (means (modelOf b) e))
+  where
+    Numbers : ℕ → Type 0
+    Numbers n = (n ≡ 0) ⊎ ((n ≡ 50) ⊎ ((n ≡ 51) ⊎ (n ≡ 52)))
+
+    go : Means (modelOf b) e (answerOf (modelOf b) e) → Numbers (answerOf (modelOf b) e)
+    go (inl p) = inr (inr (inr p))
+    go (inr (inl p)) = inr (inl (p .0))
+    go (inr (inr (inl p))) = inr (inr (inl p))
+    go (inr (inr (inr p))) = inl (p .0)
+
+pub new-book-settled : NewBookSettled
+new-book-settled = record { some = (newOf, refl); coincide = λ a b p q. p ∙ sym q }
+
+pub take-settled : TakeSettled
+take-settled b e = record { some = (tookOf b e, refl); coincide = λ x y p q. p ∙ sym q }
+
+-- a number that was just taken, on a later day
+module _ (held : List Entry) (number day later : ℕ) (free : holds number held ≡ false) (l : day ≤ later) where
+  only : holds number (heldOn later (held ++ (pair number day ∷ []))) ≡ holds number (heldOn later (pair number day ∷ []))
+  only =
+      ap (holds number) (held-append later held (pair number day ∷ []))
+      ∙ some-append (λ (e : Entry). eqb (e .number) number) (heldOn later held) (heldOn later (pair number day ∷ []))
+      ∙ ap (λ (b : Bool). b || holds number (heldOn later (pair number day ∷ []))) (holds-not number later held free)
+
+  found : (b : Bool) → isForgotten later (pair number day) ≡ b → holds number (heldOn later (held ++ (pair number day ∷ []))) ≡ not b
+  found b h = only ∙ ap (λ (x : Bool). holds number (cond x [] (pair number day ∷ []))) h ∙ go b
+    where
+      go : (x : Bool) → holds number (cond x [] (pair number day ∷ [])) ≡ not x
+      go true = refl
+      go false = ap (λ (x : Bool). x || false) (eq-eqb number number refl)
+
+  abbrev again : ℕ
+  again = answerOf (model day (held ++ (pair number day ∷ []))) (pair number later)
+
+  still-held : later < day + 5 → again ≡ 50
+  unfolding answerOf
+  still-held h =
+      let kept : isForgotten later (pair number day) ≡ false = lt-leb 5 (later - day) (omega (arith, h, l)) in
+      sym (off-lt _ l (on _ (found false kept) refl))
+
+  held-so-long : again ≡ 50 → later < day + 5
+  held-so-long h = go (isForgotten later (pair number day)) refl (means (model day (held ++ (pair number day ∷ []))) (pair number later))
+    where
+      go : (b : Bool) → isForgotten later (pair number day) ≡ b → Means (model day (held ++ (pair number day ∷ []))) (pair number later) again → later < day + 5
+      go false p w = omega (arith, leb-false 5 (later - day) p)
+      go true p (inl q) = absurd (omega (arith, h, q))
+      go true p (inr (inl q)) = absurd (false≢true (sym (found true p) ∙ q .1))
+      go true p (inr (inr (inl q))) = absurd (omega (arith, h, q))
+      go true p (inr (inr (inr q))) = absurd (omega (arith, h, q .0))
+
+pub held-five-days : HeldFiveDays
+unfolding tookOf
+held-five-days b number day later taken next took z l took-next =
+    let e = pair number day in
+    let zero : answerOf (modelOf b) e ≡ 0 = sym (ap (λ (x : Taken). x .number) took) ∙ z in
+    let free = accepted (modelOf b) e zero .free in
+    let book : taken .book ≡ bookOf (model day (heldOn day (heldIn b) ++ (e ∷ []))) =
+    ap (λ (x : Taken). x .book) took ∙ sym (on-eq _ zero refl) ∙ ap bookOf (taken-is (modelOf b) e (eq-eqb (answerOf (modelOf b) e) 0 zero)) in
+    let number-is : next .number ≡ again (heldOn day (heldIn b)) number day later free l =
+    ap (λ (x : Taken). x .number) took-next ∙ ap (λ (x : Book). tookOf x (pair number later) .number) book
+    ∙ took-number (model day (heldOn day (heldIn b) ++ (e ∷ []))) (pair number later) in
+    (λ h. held-so-long (heldOn day (heldIn b)) number day later free l (sym number-is ∙ h), λ h. number-is ∙ still-held (heldOn day (heldIn b)) number day later free l h)

@@ -1,0 +1,3 @@
+pub mod Forgetting
+pub mod Keeping
+pub mod Rebuilding

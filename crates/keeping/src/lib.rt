@@ -1,0 +1,1 @@
+// Theorems only: stated in specs/, proved in proofs/. No function.
