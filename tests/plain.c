@@ -1,5 +1,5 @@
-/* The second opinion of the comparison, written from document 01, requests A1, A2, A3, A5 and A6 of document 02 and, for
-   A6, table 15 of source document 000 alone, for plainness and not for speed. The order is document 01's: records,
+/* The second opinion of the comparison, written from document 01, requests A1, A2, A3, A5, A6 and A7 of document 02 and,
+   for A6, table 15 of source document 000 alone, for plainness and not for speed. The order is document 01's: records,
    character table, walk, rules, calls. Sentences of the papers stand as comments beside what does them. */
 #include "plain.h"
 
@@ -1208,4 +1208,82 @@ plain_part plain_show(const uint8_t *file, size_t n, uint64_t record, uint64_t f
             return (plain_part){r.start + TEXT_FIELD[i].place->first, width(*TEXT_FIELD[i].place)};
     /* or that record has no such field. */
     return empty;
+}
+
+/* ---- The book of taken files ---- */
+
+/* Memory of its own: the book as it stands, and every pair of number and day that was ever taken in it, in their order. No
+   pair is struck out: which of them are held is a question about a day. */
+static plain_book own_book;
+static plain_pair own_pairs[PLAIN_PLACES + PLAIN_TAKES];
+static size_t own_pairs_n;
+
+static void add_pair(plain_pair pair)
+{
+    if (own_pairs_n < sizeof own_pairs / sizeof own_pairs[0])
+        own_pairs[own_pairs_n++] = pair;
+}
+
+void plain_open_book(plain_book book)
+{
+    own_book = book;
+    own_pairs_n = 0;
+    for (size_t i = 0; i < book.held && i < PLAIN_PLACES; i++)
+        add_pair(book.places[i]);
+}
+
+/* A new book is on day 0. */
+plain_book plain_open_new_book(void)
+{
+    plain_open_book((plain_book){.day = 0, .held = 0});
+    return own_book;
+}
+
+/* A number is taken on a business day, counted by the caller, and forgotten once the day is five or more later. */
+static bool is_forgotten(plain_pair pair, uint32_t day)
+{
+    return day > pair.day && day - pair.day >= 5;
+}
+
+static bool is_held(uint64_t number, uint32_t day)
+{
+    for (size_t i = 0; i < own_pairs_n; i++)
+        if (own_pairs[i].number == number && !is_forgotten(own_pairs[i], day))
+            return true;
+    return false;
+}
+
+/* The book on a day: what is held then, in no more than all places, and nothing behind it. */
+static plain_book book_on(uint32_t day)
+{
+    plain_book book = {.day = day};
+    for (size_t i = 0; i < own_pairs_n; i++)
+        if (!is_forgotten(own_pairs[i], day) && book.held < PLAIN_PLACES)
+            book.places[book.held++] = own_pairs[i];
+    return book;
+}
+
+static uint64_t refusal_of_take(uint64_t number, uint32_t day)
+{
+    /* Refusals, in order: 52 for a day earlier than the book's, */
+    if (day < own_book.day)
+        return 52;
+    /* 50 for a held number after forgetting, */
+    if (is_held(number, day))
+        return 50;
+    /* 51 exactly when 200 are then still held. */
+    if (book_on(day).held == 200)
+        return 51;
+    return 0;
+}
+
+plain_taken plain_take(uint64_t number, uint32_t day)
+{
+    uint64_t refusal = refusal_of_take(number, day);
+    /* A refused call leaves the book, its day included, unchanged. */
+    if (refusal == 0) {
+        add_pair((plain_pair){number, day});
+        own_book = book_on(day);
+    }
+    return (plain_taken){own_book, refusal};
 }

@@ -1,11 +1,11 @@
-/* The second opinion of the comparison: the calls of document 01 and of requests A3, A5 and A6 of document 02 in plain C,
-   written from document 01, requests A1, A2, A3, A5 and A6 and, for A6, table 15 of source document 000 alone, for
+/* The second opinion of the comparison: the calls of document 01 and of requests A3, A5, A6 and A7 of document 02 in plain
+   C, written from document 01, requests A1, A2, A3, A5, A6 and A7 and, for A6, table 15 of source document 000 alone, for
    plainness and not for speed.
 
    In every call a file, a list or a table of codes is lent as a pointer and its length; with length 0 the pointer is not
    followed. transfer and cheque are the country lists, two bytes a country, a lone last byte ignored. Memory lent for
    writing (out, notes, returned) must not overlap anything else that is lent. A refused call writes nothing to it.
-   Prepare and restore work in memory of their own that they hold once: not for two threads at a time.
+   Prepare, restore and the book work in memory of their own that they hold once: not for two threads at a time.
 
    page is the code page: 0 for DIN 66003, 1 for ISO 8859-1. Any other is 7, before every other number; all other
    numbers of the answer are then 0. */
@@ -87,5 +87,21 @@ plain_restored plain_restore(uint32_t page, const uint8_t *forwarded, size_t n, 
 /* Show a field: where its part of the file begins and how long it is. The part is empty exactly when the walk refuses,
    the record doesn't exist, or that record has no such field. */
 plain_part plain_show(const uint8_t *file, size_t n, uint64_t record, uint64_t field);
+
+/* The book of taken files as it stands: its day, how many numbers are held, and 200 places, of which the first so many
+   hold them, each with the day on which it was taken, in the order in which they were. Taking one answers 0 or its
+   refusal, 52, 50 or 51, and the book as it then stands. */
+enum { PLAIN_PLACES = 200, PLAIN_TAKES = 10000 };
+typedef struct { uint64_t number; uint32_t day; } plain_pair;
+typedef struct { uint32_t day; uint64_t held; plain_pair places[PLAIN_PLACES]; } plain_book;
+typedef struct { plain_book book; uint64_t number; } plain_taken;
+
+/* Opens a new book, which is the answer, or any book; takes a number on a day in the one that was opened last, at most
+   PLAIN_TAKES times. What is done with a book that no take leaves is what hosts/c/desk.h says. Where held is more than
+   200, all places count. Each place counts by itself, also where a number stands in two. A number with a later day than
+   that of the take is held. After a take that is not refused there are zeros behind the held numbers. */
+plain_book plain_open_new_book(void);
+void plain_open_book(plain_book book);
+plain_taken plain_take(uint64_t number, uint32_t day);
 
 #endif

@@ -2,11 +2,11 @@
    the papers ask for.
 
    compare [--seed N] [--calls N]
-       The suites, some 4.3 million calls; then random files, until N calls more are made.
+       The suites, some 4.6 million calls; then random files, until N calls more are made with them, and random books.
    compare --suite NAME
        One suite alone.
    compare --seconds N [--seed N]
-       Random files alone, for that many seconds.
+       Random files and books alone, for that many seconds.
    compare --replay FILE
        Runs one kept case again, and checks again what was due of it. */
 
@@ -18,6 +18,7 @@
 
 #include "drafts.h"
 #include "suites.h"
+#include "takes.h"
 
 /* Those that read text are run on each page; the others begin on page 0. */
 static const struct {
@@ -28,6 +29,7 @@ static const struct {
     {"code_pages", each_code_page, 1},
     {"sorting", each_sorting, 1},
     {"m8", each_m8, 1},
+    {"book", each_book, 1},
     {"arrivals", each_arrival, 1},
     {"lengths", each_length, 1},
     {"amounts", each_amount, 1},
@@ -116,6 +118,7 @@ static void random_case(void)
         random_country_list();
         random_reading();
         random_sorting();
+        random_book();
         return;
     }
     if (one_in(3)) {
@@ -129,6 +132,15 @@ static void random_case(void)
         sound = false;
     }
     every_call(sound);
+}
+
+/* Each take of a number is a call. */
+static uint64_t all_calls(void) { return calls_made() + takes_made(); }
+
+static int replay_either(const char *name)
+{
+    int status = replay_takes(name);
+    return status < 0 ? replay(name) : status;
 }
 
 static int usage(void)
@@ -154,8 +166,9 @@ int main(int argc, char **argv)
         return usage();
     snprintf(cases, sizeof cases, "target/tests/case-%" PRIu64 "-", seed);
     open_areas(kept ? NULL : cases);
+    keep_takes(kept ? NULL : cases);
     if (kept)
-        return replay(kept);
+        return replay_either(kept);
     if (seconds == 0 && !run_suites(suite, seed))
         return usage();
     begin_chance(seed);
@@ -163,6 +176,6 @@ int main(int argc, char **argv)
     calls = suite ? 0 : calls + calls_made();
     while (seconds ? time(NULL) < end : calls_made() < calls)
         random_case();
-    printf("%" PRIu64 " calls compared, 0 differ\n", calls_made());
+    printf("%" PRIu64 " calls compared, 0 differ\n", all_calls());
     return 0;
 }

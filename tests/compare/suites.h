@@ -79,6 +79,10 @@ void random_sorting(void);                          /* with the annexes, on the 
 /* m8.c: request A6, M8 records for the returned payments, on both pages; it leaves page 0 in use. */
 void each_m8(void);
 
+/* book.c: request A7, the book of taken files. */
+void each_book(void);
+void random_book(void);
+
 /* sweep.c: what people send by mistake; every byte at every place; every date, wrong totals; and every pair of
    characters in the short fields, numbers of payments. Of these the first two read text. */
 void each_mistake(void);
