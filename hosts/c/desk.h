@@ -90,10 +90,10 @@ typedef struct { desk_reader reader; desk_answer answer; } desk_read;
 typedef struct { uint64_t number; uint32_t day; } desk_entry;
 
 /* A book of taken file numbers is a value, which may be copied and kept: the day of the last take that was not refused, how
-   many numbers are held, and the places; the first so many hold them, in the order in which they were taken. */
+   many file numbers are held, and the places. The first so many hold them, in the order in which they were taken. */
 enum { DESK_BOOK_PLACES = 200 };
 typedef struct { uint32_t day; uint64_t held; desk_entry places[DESK_BOOK_PLACES]; } desk_book;
-typedef struct { desk_book book; uint64_t number; } desk_taken;
+typedef struct { desk_book book; uint64_t number; } desk_taken; /* number: 0, or why the take is refused */
 
 /* Judges a file on page 0 (DIN 66003) without taken numbers: record * 100 + number; 0 for a sound file. For a file in ISO
    8859-1 there is desk_judge_full with page 1; here its umlauts would be read as spaces.
@@ -191,20 +191,23 @@ desk_restored desk_restore(uint32_t page, const uint8_t *forwarded, size_t n, co
    record. Length 0 (and start 0): the structure is broken, the record doesn't exist, or it has no such field. */
 desk_part desk_show(const uint8_t *file, size_t n, uint64_t record, uint64_t field);
 
-/* The book of taken file numbers. A file's number is its Q4, Q6 and Q7 as one number (docs/RULES.md, 5.6); a day is a business
-   day, which the host counts, from 0 up to 4,294,967,295. A number that was taken on a day is forgotten once the day is five
-   or more later: one that was taken on day 7 is held through day 11, and may be taken again on day 12. There are 200 places,
-   and those of forgotten numbers are used again. A new book is on day 0 and holds nothing.
+/* The book of taken file numbers. A file's number is its Q4, Q6 and Q7 as one number (docs/RULES.md, 5.6), but any number of
+   64 bits may be taken; a day is a business day, which the host counts, from 0 up to 4,294,967,295. A file number that was
+   taken on a day is forgotten once the day is five or more later: one that was taken on day 7 is held on days 7 to 11, and may
+   be taken again on day 12. There are 200 places, and those of forgotten numbers are used again. A new book is on day 0 and
+   holds nothing; all its places are zeros.
        desk_book book = desk_book_new();
        desk_taken taken = desk_book_take(book, file_number, day);
-       if (taken.number == 0) book = taken.book; else ..;
-   Number 0: the number is taken, the book is on that day, and what was forgotten by then is gone from it. Refused, in this
-   order: 52 where the day is earlier than the book's; 50 where the number is held on that day; 51 where 200 others are. A
-   refused take gives back the very book that was handed in, with its day: it forgets nothing, and the next take may be on any
-   day from the book's on. A call changes no book in place.
-   Any book may be handed in. Where held is more than 200, all places count. What no take leaves, such as a number twice or a
-   day later than the book's, is read as it stands: a number with a later day is held. Behind the held numbers a take that was
-   not refused leaves zeros. Books have padding, so compare them by their fields. */
+       book = taken.book;
+       if (taken.number != 0) ..;   refused, and the book is the very one that was handed in
+   The answer is 0 where the file number is taken: the book is on that day, what is forgotten by then is gone from it, and
+   behind the held ones are zeros. Else it is the first of these: 52, the day is earlier than the book's; 50, the file number
+   is held on that day; 51, all 200 places hold one on that day. A refused take forgets nothing and leaves the day, so the
+   next one may be on any day from the book's on. A call changes no book in place.
+   Towards the end of the days nothing is forgotten any more: what is taken on one of the last five stays.
+   Any book may be handed in, also one that no take leaves; it is read as it stands. Where held is more than 200, all places
+   count. Each place counts by itself, also where a number stands in two. A number whose day is later than that of the take is
+   held. Books have padding, so compare them by their fields. */
 desk_book desk_book_new(void);
 desk_taken desk_book_take(desk_book book, uint64_t file_number, uint32_t day);
 

@@ -1,6 +1,6 @@
 -- One place more: what is held in the places so far, and the book that holds it.
 use Prim.Native.Nat.{ℕ, suc, _+_, _-_, _≤_, _<_, min}
-use mathlib.Core.Path.{_≡_, refl, sym, ap, ap₂, _∙_}
+use mathlib.Core.Path.{_≡_, refl, sym, ap, _∙_}
 use mathlib.Core.Bool.{Bool, true, false, _||_, cond, or-false}
 use mathlib.Core.List.{List, [], _∷_, _++_, append-nil, map}
 use native.Mathlib.Omega.{arith}
@@ -13,7 +13,6 @@ use Rattle.laws.specs.Choice.{on-eq, off-eq, on-lt, off-lt, on-call, off-call}
 use Rattle.fields.specs.Laws.{some-append}
 use Rattle.book.specs.declared.Entry.{Entry}
 use Rattle.book.specs.declared.Book.{Book}
-use Rattle.book.specs.declared.Taken.{Taken}
 use Rattle.book.specs.Model.{Model, model, isForgotten, heldOn, holds, answerOf, after}
 use Rattle.book.specs.Kept.{pair, heldIn, modelOf, placesOf, bookOf, answered, tookOf, onDay, withEntry}
 

@@ -1,11 +1,11 @@
 -- Forgetting, again and again: what is forgotten on a day is forgotten on every later one.
-use Prim.Native.Nat.{ℕ, suc, _+_, _-_, _≤_, _<_}
+use Prim.Native.Nat.{ℕ, _-_, _≤_}
 use mathlib.Core.Path.{_≡_, refl, sym, ap, _∙_}
 use mathlib.Core.Bool.{Bool, true, false, _||_, cond, false≢true}
-use mathlib.Core.List.{List, [], _∷_, _++_}
+use mathlib.Core.List.{List, [], _∷_}
 use native.Mathlib.Omega.{arith}
 use borrow.Author.Tests.{le-leb, leb-true}
-use lib.Dec.{eqb, leb}
+use lib.Dec.{eqb}
 use Rattle.book.specs.declared.Entry.{Entry}
 use Rattle.book.specs.Model.{isForgotten, heldOn, holds}
 

@@ -3,22 +3,22 @@ use Prim.Native.Nat.{ℕ, _+_, _-_, _≤_, _<_}
 use mathlib.Core.Path.{_≡_, refl, sym, ap, ap₂, subst, _∙_}
 use mathlib.Core.Bool.{Bool, true, false, _||_, not, cond, false≢true}
 use mathlib.Core.List.{List, [], _∷_, _++_}
-use mathlib.Core.Logic.{_⊎_, inl, inr, _↔_}
+use mathlib.Core.Logic.{_⊎_, inl, inr}
 use native.Mathlib.Omega.{arith}
-use borrow.Author.Tests.{eqb-true, eqb-false, ltb-true, ltb-false, leb-true, leb-false, lt-leb, eq-eqb}
-use lib.Dec.{eqb, leb, ltb}
-use lib.ListN.{length, replicate}
-use Rattle.laws.specs.Choice.{on, off, on-eq, off-eq, on-lt, off-lt}
+use borrow.Author.Tests.{eqb-true, eqb-false, ltb-false, leb-false, lt-leb, eq-eqb}
+use lib.Dec.{eqb, ltb}
+use lib.ListN.{length}
+use Rattle.laws.specs.Choice.{on, off, on-eq, off-eq, off-lt}
 use Rattle.laws.specs.Steps.{fold}
 use Rattle.fields.specs.Laws.{some-append}
 use Rattle.book.specs.declared.Entry.{Entry}
 use Rattle.book.specs.declared.Book.{Book}
 use Rattle.book.specs.declared.Taken.{Taken}
 use Rattle.book.specs.Model.{Model, model, empty, isForgotten, heldOn, holds, answerOf, after}
-use Rattle.book.specs.Kept.{pair, heldIn, modelOf, bookOf, newOf, tookOf, NewBookAs, TookAs}
+use Rattle.book.specs.Kept.{pair, heldIn, modelOf, bookOf, newOf, tookOf}
 use Rattle.book.specs.Laws.{held-append, held-is}
-use Rattle.keeping.specs.Keeping.{TookAll, Takes, answersBy, AnswersAsModel, noted, AnswersAsPlainSet, HeldFiveDays, RefusedKeepsBook, TakeNumbers, TakesRebuild, NewBookSettled, TakeSettled}
-use Rattle.keeping.proofs.Forgetting.{held-later, held-turned, holds-not}
+use Rattle.keeping.specs.Keeping.{TookAll, Takes, answersBy, AnswersAsModel, noted, AnswersAsPlainSet, HeldFiveDays, RefusedKeepsBook, TakeNumbers, NewBookSettled, TakeSettled}
+use Rattle.keeping.proofs.Forgetting.{held-later, holds-not}
 
 same-model : (m : Model) → modelOf (bookOf m) ≡ m
 same-model m i = model (m .day) (held-is m i)
