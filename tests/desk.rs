@@ -4,7 +4,10 @@
 mod desk;
 
 use desk::Page::{Din66003, Iso8859_1};
-use desk::{Answer, Field, Judgement, Lists, Note, Page, Prepared, Reader, Refusal, M8_CODES, M8_RECORD};
+use desk::{
+    Answer, Book, Entry, Field, Judgement, Lists, Note, Page, Prepared, Reader, Refusal, BOOK_PLACES, M8_CODES,
+    M8_RECORD,
+};
 use std::io::{self, ErrorKind, Read};
 
 const SOUND: &[u8] = include_bytes!("../samples/sound.dtazv");
@@ -591,4 +594,111 @@ fn shows_the_very_part() {
         assert_eq!(desk::show(&SOUND[1..], record, field), None);
     }
     assert_eq!(Field::ALL.map(|field| field.to_string()).join(" "), "Q5 T8 T9b T10b T12 T15 T20 T23 T24");
+}
+
+/// RULES 5.6 has the number of Q4 0000000012, Q6 240229 and Q7 07. The digits stand in columns 14 to 23 and 164 to 171.
+#[test]
+fn file_numbers() {
+    for (file, number) in [(SOUND, 1226111601), (DIN, 1226111601), (CHEQUES, 1226111602), (RETURNED, 1226111603)] {
+        assert_eq!(desk::file_number(file), Some(number));
+    }
+    assert_eq!(desk::file_number(&with(SOUND, &[(0, 163, "24022907")])), Some(1224022907));
+    let (zeros, nines) = ("0".repeat(256), "9".repeat(256));
+    assert_eq!(desk::file_number(zeros.as_bytes()), Some(0));
+    assert_eq!(desk::file_number(nines.as_bytes()), Some(999_999_999_999_999_999));
+    for place in 0..256 {
+        for other in ["/", ":", " ", "X"] {
+            let file = with(SOUND, &[(0, place, other)]);
+            let is_in_it = (13..23).contains(&place) || (163..171).contains(&place);
+            assert_eq!(desk::file_number(&file), (!is_in_it).then_some(1226111601), "{other} at {place}");
+        }
+    }
+    for bytes in 0..=256 {
+        assert_eq!(desk::file_number(&SOUND[..bytes]), (bytes >= 171).then_some(1226111601), "{bytes}");
+    }
+}
+
+fn entries(pairs: &[(u64, u32)]) -> Vec<Entry> {
+    pairs.iter().map(|&(number, day)| Entry { number, day }).collect()
+}
+
+/// What the book answers to a take, which changes it only where it is not refused.
+fn take(book: &mut Book, number: u64, day: u32) -> Result<(), Refusal> {
+    let before = book.clone();
+    let answer = book.take(number, day);
+    assert_eq!(*book == before, answer.is_err());
+    answer
+}
+
+#[test]
+fn a_book_holds_a_number_for_five_days() {
+    let mut book = Book::new();
+    assert_eq!((book.day(), book.held()), (0, &[][..]));
+    assert_eq!(book, Book::default());
+    assert_eq!(take(&mut book, 1226111601, 7), Ok(()));
+    assert_eq!(take(&mut book, 1226111601, 6), refused(52, 0, 0));
+    assert_eq!(take(&mut book, 1226111602, 6), refused(52, 0, 0));
+    for day in 7..=11 {
+        assert_eq!(take(&mut book, 1226111601, day), refused(50, 0, 0));
+    }
+    assert_eq!(take(&mut book, 1226111602, 8), Ok(()));
+    assert_eq!((book.day(), book.held()), (8, &entries(&[(1226111601, 7), (1226111602, 8)])[..]));
+    assert_eq!(take(&mut book, 1226111601, 12), Ok(()));
+    assert_eq!((book.day(), book.held()), (12, &entries(&[(1226111602, 8), (1226111601, 12)])[..]));
+    assert_eq!(take(&mut book, 3, 17), Ok(()));
+    assert_eq!((book.day(), book.held()), (17, &entries(&[(3, 17)])[..]));
+    assert_eq!(format!("{book:?}"), "Book { day: 17, held: [Entry { number: 3, day: 17 }] }");
+}
+
+#[test]
+fn books_are_compared_by_day_and_numbers() {
+    let of = |takes: &[(u64, u32)]| {
+        let mut book = Book::new();
+        assert!(takes.iter().all(|&(number, day)| book.take(number, day).is_ok()));
+        book
+    };
+    assert_eq!(of(&[(1, 0), (2, 5)]), of(&[(2, 5)]));
+    for other in [&[(1, 5)][..], &[(2, 6)], &[(1, 4), (2, 5)], &[(2, 5), (1, 5)], &[]] {
+        assert_ne!(of(&[(2, 5)]), of(other));
+    }
+}
+
+/// With 200 numbers held, a held one is 50 still, and an earlier day 52. The first places are free with day 5, on which the
+/// numbers of day 0 are forgotten.
+#[test]
+fn a_full_book() {
+    let mut book = Book::new();
+    for number in 0..BOOK_PLACES as u64 {
+        assert_eq!(take(&mut book, number, number as u32 / 100), Ok(()));
+    }
+    assert_eq!((book.day(), book.held().len()), (1, 200));
+    for day in 1..5 {
+        assert_eq!(take(&mut book, 200, day), refused(51, 0, 0));
+        assert_eq!(take(&mut book, 199, day), refused(50, 0, 0));
+        assert_eq!(take(&mut book, 0, day), refused(50, 0, 0));
+    }
+    assert_eq!(take(&mut book, 200, 0), refused(52, 0, 0));
+    assert_eq!(take(&mut book, 0, 0), refused(52, 0, 0));
+    assert_eq!(take(&mut book, 0, 5), Ok(()));
+    let held: Vec<(u64, u32)> = (100..200).map(|number| (number, 1)).chain([(0, 5)]).collect();
+    assert_eq!(book.held(), entries(&held));
+}
+
+/// `free_from` is the first day on which a take of the number is not refused. The last day is 4,294,967,295.
+#[test]
+fn when_a_number_is_free() {
+    for day in [0, 7, u32::MAX - 6, u32::MAX - 5] {
+        let mut book = Book::new();
+        assert_eq!(take(&mut book, u64::MAX, day), Ok(()));
+        let free = book.held()[0].free_from().unwrap();
+        assert_eq!(free, day + 5);
+        assert_eq!(take(&mut book, u64::MAX, free - 1), refused(50, 0, 0));
+        assert_eq!(take(&mut book, u64::MAX, free), Ok(()));
+    }
+    for day in u32::MAX - 4..=u32::MAX {
+        let mut book = Book::new();
+        assert_eq!(take(&mut book, 0, day), Ok(()));
+        assert_eq!(book.held()[0].free_from(), None);
+        assert_eq!(take(&mut book, 0, u32::MAX), refused(50, 0, 0));
+    }
 }

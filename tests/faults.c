@@ -1,9 +1,10 @@
-/* Linked into both example hosts by tests/hosts, with ld's --wrap: faults that are hard to cause from outside. The word
-   in DESK_FAULT says which: with "restore" another byte comes back than went in; with "list" the payment behind the first
+/* Linked into the example hosts by tests/hosts, with ld's --wrap: faults that are hard to cause from outside. The word in
+   DESK_FAULT says which: with "restore" another byte comes back than went in; with "list" the payment behind the first
    returned one is named in its place; with "m8" one M8 record too few is told; with "after=PATH" nothing gets the name
-   new-forwarded while nothing is at that path; with "full=PATH" the disk is full when what was written to that path is to
-   go there; with "kept=PATH" that path cannot be removed while another name of its file is there; and any other word is a
-   name that nothing gets. */
+   new-forwarded while nothing is at that path; with "full=PATH" the disk is full when what was written to that path, or to
+   that directory, is to go there; with "kept=PATH" that path cannot be removed while another name of its file is there;
+   with "killed" the host ends, and clears nothing up, where a file is to be renamed; and any other word is a name that
+   nothing gets. */
 #include "../hosts/c/desk.h"
 
 #include <errno.h>
@@ -25,8 +26,11 @@ desk_restored __real_desk_restore(uint32_t page, const uint8_t *forwarded, size_
                                   uint8_t *out, size_t out_n);
 int __real_link(const char *from, const char *to);
 int __real_linkat(int from_in, const char *from, int to_in, const char *to, int flags);
+int __real_rename(const char *from, const char *to);
 int __real_unlink(const char *path);
 int __real_fsync(int descriptor);
+
+enum { KILLED = 137 }; /* the status of a host that is killed */
 
 static bool fault_is(const char *word)
 {
@@ -92,6 +96,13 @@ int __wrap_link(const char *from, const char *to) { return cannot_be(to) ? fails
 int __wrap_linkat(int from_in, const char *from, int to_in, const char *to, int flags)
 {
     return cannot_be(to) ? fails(EBUSY) : __real_linkat(from_in, from, to_in, to, flags);
+}
+
+int __wrap_rename(const char *from, const char *to)
+{
+    if (fault_is("killed"))
+        _exit(KILLED);
+    return cannot_be(to) ? fails(EBUSY) : __real_rename(from, to);
 }
 
 int __wrap_unlink(const char *path)

@@ -20,7 +20,7 @@ fn readme() -> HashMap<u64, &'static str> {
 #[test]
 fn words() {
     let readme = readme();
-    assert_eq!(readme.len(), 39);
+    assert_eq!(readme.len(), 41);
     for number in 0..=100 {
         let words = readme.get(&number).copied().unwrap_or("no rule of the desk");
         assert_eq!(Refusal { number, record: 0, at: 0 }.words(), words, "{number}");
@@ -53,7 +53,7 @@ fn kinds() {
     }
     let every_rule_but_1 = (0..=5).chain(10..=16).chain(20..=35).chain(40..=42).chain([50]).filter(|&n| n != 1);
     assert!(every_rule_but_1.into_iter().all(|number| numbers.contains(&number)));
-    for number in (60..=100).chain([1, 6, 7, 43]) {
+    for number in (51..=100).chain([1, 6, 7, 43]) {
         let refusal = Refusal { number, record: 0, at: 0 };
         assert_eq!((refusal.kind(), refusal.columns()), (None, None), "{number}");
         assert_eq!(c::kind(number), None, "{number}");
@@ -98,7 +98,9 @@ fn lines() {
         (32, 212, 455, "rule 32 at record 212, T13, columns 456 to 458: T13 not EUR"),
         (41, 9, 20, "rule 41 at record 9, Z4, columns 21 to 35: Z4 is not the number of T records"),
         (43, 0, 0, "number 43: prepare, M8: every payment would be returned"),
-        (50, 0, 0, "number 50: judge: the file number (Q4, Q6, Q7) is a taken one"),
+        (50, 0, 0, "number 50: judge, book: the file number (Q4, Q6, Q7) is a taken one"),
+        (51, 0, 0, "number 51: book: 200 numbers are held"),
+        (52, 0, 0, "number 52: book: the day is earlier than the book's"),
         (60, 0, 0, "number 60: prepare, M8, restore: output room shorter than the file that goes on or is restored, or than the M8 records"),
         (61, 0, 0, "number 61: prepare: more changes in the file that goes on than note places"),
         (62, 0, 0, "number 62: M8: the code table is not 96 bytes"),

@@ -200,12 +200,12 @@ desk_part desk_show(const uint8_t *file, size_t n, uint64_t record, uint64_t fie
        desk_taken taken = desk_book_take(book, file_number, day);
        book = taken.book;
        if (taken.number != 0) ..;   refused, and the book is the very one that was handed in
-   The answer is 0 where the file number is taken: the book is on that day, what is forgotten by then is gone from it, and
-   behind the held ones are zeros. Else it is the first of these: 52, the day is earlier than the book's; 50, the file number
-   is held on that day; 51, all 200 places hold one on that day. A refused take forgets nothing and leaves the day, so the
-   next one may be on any day from the book's on. A call changes no book in place.
-   Towards the end of the days nothing is forgotten any more: what is taken on one of the last five stays.
-   Any book may be handed in, also one that no take leaves; it is read as it stands. Where held is more than 200, all places
+   The answer is 0 where the take is accepted: the number is held, the book is on that day, what is forgotten by then is gone
+   from it, and behind the held ones are zeros. Else it is the first of these: 52, the day is earlier than the book's; 50, the
+   file number is held on that day; 51, all 200 places hold one on that day. A refused take forgets nothing and leaves the
+   day, so the next one may be on any day from the book's on. A call changes no book in place. What is taken on one of the
+   last five days is never forgotten: there is no day five later.
+   Any book may be handed in, also one that no takes from a new book leave; it is read as it stands. Where held is more than 200, all places
    count. Each place counts by itself, also where a number stands in two. A number whose day is later than that of the take is
    held. Books have padding, so compare them by their fields. */
 desk_book desk_book_new(void);

@@ -44,6 +44,7 @@
    be read or written; 3: all is done, but some payments come back. */
 #define _POSIX_C_SOURCE 200809L
 #include "codes.h"
+#include "common.h"
 #include "desk.h"
 #include "words.h"
 
@@ -58,38 +59,17 @@
 #include <sys/stat.h>
 #include <unistd.h>
 
-/* Annex II and Annex I of source document 000. */
-static const char transfer[] =
-    "AFEGALDZAOAGGQARAMAWAZETAUBSBHBDBBBZBMBTBOBABWBRBNBIKYCLCNCRCWDODJCISVECERSZFKFOFJPFGAGMGEGHGIGLGBGTGGGNGYHTHNHK"
-    "INIDIQIMILJMJPYEJEJOKHCMCACVKZQAKEKGCOCDXKKWLALSLBLYMOMGMWMYMVMLMAMUMXMDMNMEMZNANPNZNIANNENGMKOMPKPWPAPGPYPEPHPR"
-    "CGRWRUSBZMWSSASNRSSCSLZWSGSOSJLKSHKNZAKRSSSRTJTWTZTHTGTOTTTDTNTRTMTCUGUAUYUSUZVUAEVNBYCF";
-static const char cheque[] = "ARBOBRCLCRDOSVECGTGBHNCACOMXNIPAPYPEPRUYUSVE";
-#define LISTS (const uint8_t *)transfer, sizeof transfer - 1, (const uint8_t *)cheque, sizeof cheque - 1
-
 static const uint64_t none_taken[1];
 
-enum { MOST = 7679744, CUT = 64 * 1024 }; /* bytes of the longest file, and of a cut of standard input */
-enum { Q = 256, T = 768, Z = 256, PAYMENTS = (MOST - Q - Z) / T }; /* bytes of the records; payments of the longest file */
+enum { CUT = 64 * 1024 }; /* bytes of a cut of standard input */
 enum { T10B = 210, LINE = 35, T14A = 458, T14B = 472, Z3 = 5, Z4 = 20, Z5 = 35 }; /* where fields begin; a line of T10b */
 enum { M8_DATE = 3, M8_FILE = 9, M8_AMOUNT = 38, M8_CODE = 56, M8_REFERENCE = 62 }; /* the same of an M8 record */
+/* A file that is longer than any sound one fills the last place too, and is refused. */
 static uint8_t file[MOST + 1], forwarded[MOST + 1], restored[MOST + 1], kept[MOST + 1], m8[PAYMENTS * DESK_M8_RECORD];
 static uint32_t notes[MOST], returned[PAYMENTS];
 
-/* The status to end with. */
-enum { ALL_GOES_ON = 0, NOTHING_GOES_ON = 1, FAILED = 2, SOME_COME_BACK = 3 };
-
-/* Says what is wrong with a path; always false, for the caller to hand on. */
-static bool wrong(const char *path, const char *why)
-{
-    fprintf(stderr, "%s: %s\n", path, why);
-    return false;
-}
-
-/* The pages: the word that asks for each, and its name. */
-static const struct { const char *word, *name; } pages[] = {
-    [DESK_DIN_66003] = {"0", "page 0 (DIN 66003)"},
-    [DESK_ISO_8859_1] = {"1", "page 1 (ISO 8859-1)"},
-};
+/* The status to end with, where nothing failed. */
+enum { ALL_GOES_ON = 0, NOTHING_GOES_ON = 1, SOME_COME_BACK = 3 };
 
 /* What is asked for: the page, whether the file is to go on as a whole, where M8 records go (null: nowhere), and by the
    other words the paths, or - alone for standard input. */
@@ -97,56 +77,31 @@ typedef struct {
     uint32_t page;
     bool is_strict;
     const char *m8;
-    int count;
-    char **words;
+    words_left left;
 } request;
-
-/* Takes the first word, where there is one and it is this one. */
-static bool take(request *asked, const char *word)
-{
-    if (asked->count < 1 || strcmp(asked->words[0], word) != 0)
-        return false;
-    asked->count--;
-    asked->words++;
-    return true;
-}
-
-/* Takes the page behind --page. */
-static bool take_page(request *asked)
-{
-    for (uint32_t page = 0; page < sizeof pages / sizeof pages[0]; page++)
-        if (take(asked, pages[page].word)) {
-            asked->page = page;
-            return true;
-        }
-    const char *word = asked->count > 0 ? asked->words[0] : NULL;
-    fprintf(stderr, "%s%s: there is %s and %s\n", word ? "page " : "--page names no page", word ? word : "",
-            pages[DESK_DIN_66003].name, pages[DESK_ISO_8859_1].name);
-    return false;
-}
 
 /* Takes the path behind --m8. */
 static bool take_m8(request *asked)
 {
-    if (asked->count < 1) {
+    if (asked->left.count < 1) {
         fprintf(stderr, "--m8 names no file\n");
         return false;
     }
-    asked->m8 = asked->words[0];
-    return take(asked, asked->m8);
+    asked->m8 = asked->left.words[0];
+    return take_word(&asked->left, asked->m8);
 }
 
 /* Takes the options, in any order and each once. */
 static bool take_options(request *asked)
 {
     for (bool names_page = false;;) {
-        if (!asked->is_strict && take(asked, "--strict")) {
+        if (!asked->is_strict && take_word(&asked->left, "--strict")) {
             asked->is_strict = true;
-        } else if (!names_page && take(asked, "--page")) {
+        } else if (!names_page && take_word(&asked->left, "--page")) {
             names_page = true;
-            if (!take_page(asked))
+            if (!take_page(&asked->left, &asked->page))
                 return false;
-        } else if (!asked->m8 && take(asked, "--m8")) {
+        } else if (!asked->m8 && take_word(&asked->left, "--m8")) {
             if (!take_m8(asked))
                 return false;
         } else {
@@ -157,28 +112,20 @@ static bool take_options(request *asked)
 
 static bool is_input(const char *word) { return strcmp(word, "-") == 0; }
 
-/* Whether a word can be a path: not where it begins as an option does. */
-static bool is_path(const char *word)
-{
-    if (word[0] != '-')
-        return true;
-    fprintf(stderr, "%s: no option in this place; a file of that name is ./%s\n", word, word);
-    return false;
-}
-
 /* Whether each word can be what it stands for: standard input stands alone, the strict way has no M8 records, and all other
    words are paths. */
 static bool are_in_place(const request *asked)
 {
-    int first = asked->count > 0 && is_input(asked->words[0]) ? 1 : 0;
-    if (first && (asked->count > 1 || asked->m8))
-        return wrong(asked->words[0], "standard input can only be judged; FORWARDED, NOTES and M8 need a FILE");
+    const words_left *left = &asked->left;
+    int first = left->count > 0 && is_input(left->words[0]) ? 1 : 0;
+    if (first && (left->count > 1 || asked->m8))
+        return wrong(left->words[0], "standard input can only be judged; FORWARDED, NOTES and M8 need a FILE");
     if (asked->is_strict && asked->m8)
         return wrong("--m8", "with --strict no payment comes back, and there are no M8 records");
     if (asked->m8 && !is_path(asked->m8))
         return false;
-    for (int i = first; i < asked->count; i++)
-        if (!is_path(asked->words[i]))
+    for (int i = first; i < left->count; i++)
+        if (!is_path(left->words[i]))
             return false;
     return true;
 }
@@ -188,7 +135,7 @@ static bool understand(request *asked)
 {
     if (!take_options(asked))
         return false;
-    if (are_in_place(asked) && (asked->count == 1 || asked->count == 3))
+    if (are_in_place(asked) && (asked->left.count == 1 || asked->left.count == 3))
         return true;
     fprintf(stderr, "usage: example [--page 0|1] [--strict | --m8 M8] FILE [FORWARDED NOTES], or example [--page 0|1] -\n");
     return false;
@@ -196,21 +143,6 @@ static bool understand(request *asked)
 
 /* The paths of what is written: the targets, and then the new files that become them. One that is not named is null. */
 enum { FORWARDED, NOTES, M8, TARGETS, NEW = TARGETS, PATHS = 2 * TARGETS };
-
-/* A text's first bytes, with an end behind them. */
-static char *joined(const char *text, size_t length, const char *end)
-{
-    char *whole = malloc(length + strlen(end) + 1);
-    if (!whole) {
-        fprintf(stderr, "no memory left\n");
-        exit(FAILED);
-    }
-    memcpy(whole, text, length);
-    strcpy(whole + length, end);
-    return whole;
-}
-
-static char *new_name(const char *path) { return joined(path, strlen(path), ".new"); }
 
 /* Where a new file is to be: its directory, and its name there. */
 typedef struct {
@@ -241,18 +173,6 @@ static bool same(const location *a, const location *b)
     return a->device == b->device && a->inode == b->inode && strcmp(a->name, b->name) == 0;
 }
 
-/* What is wrong with a path at which something stands. */
-static bool taken(const char *path) { return wrong(path, "is there already, and is not written over"); }
-
-/* Whether nothing stands at a path, not even a link that leads nowhere. */
-static bool is_free(const char *path)
-{
-    struct stat status;
-    if (lstat(path, &status) == 0)
-        return taken(path);
-    return errno == ENOENT || wrong(path, strerror(errno));
-}
-
 /* Whether all that will be written are new files, and different ones. */
 static bool are_new(const char *const paths[PATHS])
 {
@@ -269,19 +189,6 @@ static bool are_new(const char *const paths[PATHS])
     return true;
 }
 
-/* As many bytes as fit; a file that is longer than any sound one fills the last place too, and is refused. */
-static bool read_whole(const char *path, size_t *n)
-{
-    FILE *f = fopen(path, "rb");
-    if (!f)
-        return wrong(path, strerror(errno));
-    *n = fread(file, 1, sizeof file, f);
-    bool complete = !ferror(f);
-    int why = errno;
-    fclose(f);
-    return complete || wrong(path, strerror(why));
-}
-
 /* What is to be written: the target, the new file that becomes it, and what it holds. */
 typedef struct {
     const char *path, *new_path;
@@ -295,27 +202,7 @@ static bool write_new(const output *due)
     FILE *f = fopen(due->new_path, "wbx"); /* x: only where there is none */
     if (!f)
         return wrong(due->new_path, strerror(errno));
-    bool complete = fwrite(due->bytes, 1, due->size, f) == due->size && fflush(f) == 0 && fsync(fileno(f)) == 0;
-    int why = errno;
-    bool closed = fclose(f) == 0;
-    if (complete && closed)
-        return true;
-    if (complete)
-        why = errno;
-    unlink(due->new_path);
-    return wrong(due->new_path, strerror(why));
-}
-
-/* Gives a complete new file its target's name, and takes its own away. */
-static bool put_in_place(const output *due)
-{
-    if (link(due->new_path, due->path) != 0)
-        return errno == EEXIST ? taken(due->path) : wrong(due->path, strerror(errno));
-    if (unlink(due->new_path) == 0)
-        return true;
-    int why = errno;
-    unlink(due->path);
-    return wrong(due->new_path, strerror(why));
+    return write_down(f, due->new_path, due->bytes, due->size);
 }
 
 /* Writes so many files, and puts them in place in their order: all, or none. */
@@ -324,7 +211,7 @@ static bool write_all(const output outputs[], int count)
     int written = 0, placed = 0;
     while (written < count && write_new(&outputs[written]))
         written++;
-    while (written == count && placed < count && put_in_place(&outputs[placed]))
+    while (written == count && placed < count && put_in_place(outputs[placed].new_path, outputs[placed].path))
         placed++;
     if (placed == count)
         return true;
@@ -454,7 +341,7 @@ static void tell_total(const char *name, uint64_t payments, uint64_t euros)
 static void tell_sorted(uint32_t page, size_t n, const desk_prepared *sent)
 {
     const uint8_t *z = file + n - Z;
-    printf("not sound on %s: payments that break a rule come back, the others go on\n", pages[page].name);
+    printf("not sound on %s: payments that break a rule come back, the others go on\n", page_names[page]);
     for (uint64_t i = 0; i < sent->returned; i++)
         tell_returned(page, n, returned[i] / 100, returned[i] % 100);
     tell_total("kept", sent->kept, sent->kept_euros);
@@ -466,28 +353,8 @@ static void tell_sorted(uint32_t page, size_t n, const desk_prepared *sent)
 
 static void tell_sound(uint32_t page, uint64_t payments, uint64_t euros, uint64_t cents)
 {
-    printf("sound on %s: %" PRIu64 " payments, %" PRIu64 " euros and %" PRIu64 " cents\n", pages[page].name,
+    printf("sound on %s: %" PRIu64 " payments, %" PRIu64 " euros and %" PRIu64 " cents\n", page_names[page],
            payments, euros, cents);
-}
-
-static void tell_refused(uint32_t page, uint64_t number, uint64_t record, uint64_t at)
-{
-    char line[DESK_LINE];
-    desk_refusal_line(line, number, record, at);
-    printf("refused on %s: %s\n", pages[page].name, line);
-}
-
-/* Tells why nothing goes on. Prepare tells no field; the judge does, where it stops at the same rule. Where it stops at an
-   earlier one, that is told too. */
-static void tell_refusal(uint32_t page, const desk_prepared *sent, const desk_judgement *judged)
-{
-    bool is_same = judged->number == sent->number && judged->record == sent->record;
-    tell_refused(page, sent->number, sent->record, is_same ? judged->at : 0);
-    if (judged->number && !is_same) {
-        char line[DESK_LINE];
-        desk_refusal_line(line, judged->number, judged->record, judged->at);
-        printf("first broken: %s\n", line);
-    }
 }
 
 /* Prepares the file by the way that is asked for. What the strict way sends is the whole file, as the judge counts it. */
@@ -576,28 +443,19 @@ static int examine(const request *asked, size_t n, desk_prepared *sent)
     return sent->returned ? SOME_COME_BACK : ALL_GOES_ON;
 }
 
-/* Whether all that was told could be printed. */
-static bool is_printed(void)
-{
-    if (fflush(stdout) == 0 && !ferror(stdout))
-        return true;
-    fprintf(stderr, "standard output cannot be written\n");
-    return false;
-}
-
 /* The host's work on a file: the status to end with. */
 static int work_on_file(const request *asked)
 {
-    bool writes_pair = asked->count == 3;
+    bool writes_pair = asked->left.count == 3;
     const char *paths[PATHS] = {
-        [FORWARDED] = writes_pair ? asked->words[1] : NULL,
-        [NOTES] = writes_pair ? asked->words[2] : NULL,
+        [FORWARDED] = writes_pair ? asked->left.words[1] : NULL,
+        [NOTES] = writes_pair ? asked->left.words[2] : NULL,
         [M8] = asked->m8,
     };
     for (int i = 0; i < TARGETS; i++)
         paths[NEW + i] = paths[i] ? new_name(paths[i]) : NULL;
     size_t n = 0;
-    if (!are_new(paths) || !read_whole(asked->words[0], &n))
+    if (!are_new(paths) || !read_file(asked->left.words[0], file, sizeof file, &n))
         return FAILED;
     desk_prepared sent;
     int status = examine(asked, n, &sent);
@@ -648,9 +506,9 @@ static int judge_input(uint32_t page)
 
 int main(int argc, char **argv)
 {
-    request asked = {DESK_ISO_8859_1, false, NULL, argc - 1, argv + 1};
+    request asked = {DESK_ISO_8859_1, false, NULL, {argc - 1, argv + 1}};
     if (!understand(&asked))
         return FAILED;
     signal(SIGPIPE, SIG_IGN); /* where nobody reads on, printing fails, and is told like every other failure */
-    return is_input(asked.words[0]) ? judge_input(asked.page) : work_on_file(&asked);
+    return is_input(asked.left.words[0]) ? judge_input(asked.page) : work_on_file(&asked);
 }

@@ -17,6 +17,9 @@ pub const MOST_BYTES: u64 = 7_679_744;
 /// The bytes of an M8 record.
 pub const M8_RECORD: usize = 124;
 
+/// The places of a book: as many numbers are held at most.
+pub const BOOK_PLACES: usize = 200;
+
 /// Codes of M8 records, to be lent to `m8`: six bytes for each rule from 20 to 35, in that order, four rules a line. The
 /// receiver's specification lists the codes and nowhere says which belongs to which rule: the desk's reading of it stands in
 /// docs/M8-CODES.md, with the reasons. A host may lend a table of its own.
@@ -114,6 +117,22 @@ pub enum Field {
 #[derive(Clone, Debug)]
 pub struct Reader {
     own: c::Reader,
+}
+
+/// A file number in a book, and the business day on which it was taken.
+#[derive(Clone, Copy, Debug, PartialEq, Eq)]
+#[repr(C)]
+pub struct Entry {
+    pub number: u64,
+    pub day: u32,
+}
+
+/// The book of taken file numbers, of 200 places. A number that is taken on a day is forgotten once the day is five or more
+/// later: one that was taken on day 7 is held through day 11, and may be taken again on day 12. The host counts the business
+/// days, from 0. There is no way to a book but by `new` and `take`, so a host's book is always one that takes have left.
+#[derive(Clone)]
+pub struct Book {
+    own: c::Book,
 }
 
 /// Judges a file on page 0 (DIN 66003) without taken numbers: record × 100 + number; 0 for a sound file. For a file in ISO
@@ -302,6 +321,14 @@ pub fn columns_at(kind: char, offset: u64) -> Option<Columns> {
     fields.find(|row| offset < row.last && offset + 1 >= row.first)
 }
 
+/// A file's number: its Q4, Q6 and Q7 as one number (docs/RULES.md, 5.6). `None` where a byte of these is no digit, or
+/// missing. Whether the file is sound is not asked; of one that `judge` or `prepare` does not refuse there is a number.
+pub fn file_number(file: &[u8]) -> Option<u64> {
+    let [q4, q6, q7] = [13..23, 163..169, 169..171].map(|place| file.get(place));
+    let digits = [q4?, q6?, q7?].concat();
+    digits.iter().try_fold(0, |number, byte| byte.is_ascii_digit().then(|| number * 10 + u64::from(byte - b'0')))
+}
+
 impl Reader {
     /// A reader that has got no byte yet; the end of it would be 2 at record 0.
     pub fn new(page: Page) -> Reader {
@@ -350,6 +377,62 @@ impl Reader {
         let c::Read { reader, judged, changes } = unsafe { c::desk_reader_end(self.own, taken.as_ptr(), taken.len()) };
         self.own = reader;
         judgement(judged).map(|judgement| Answer { judgement, changes })
+    }
+}
+
+impl Entry {
+    /// The first day on which the number may be taken again; `None` where no day is left for it.
+    pub fn free_from(&self) -> Option<u32> {
+        self.day.checked_add(5)
+    }
+}
+
+impl Book {
+    /// A book on day 0 that holds nothing.
+    pub fn new() -> Book {
+        // SAFETY: it takes nothing.
+        Book { own: unsafe { c::desk_book_new() } }
+    }
+
+    /// Takes a file number on a day: the book is on that day then, and what was forgotten by then is gone from it. Refused,
+    /// in this order: 52 where the day is earlier than the book's; 50 where the number is held on that day; 51 where 200
+    /// others are. A refused take leaves the book as it is, its day included: it forgets nothing.
+    pub fn take(&mut self, number: u64, day: u32) -> Result<(), Refusal> {
+        // SAFETY: it takes values alone.
+        let c::Taken { book, number } = unsafe { c::desk_book_take(self.own, number, day) };
+        self.own = answer(Refusal { number, record: 0, at: 0 }, book)?;
+        Ok(())
+    }
+
+    /// The day of the last take that was not refused; of a new book 0.
+    pub fn day(&self) -> u32 {
+        self.own.day
+    }
+
+    /// The held numbers, in the order in which they were taken: so no day is earlier than the one before it, and the last is
+    /// the book's.
+    pub fn held(&self) -> &[Entry] {
+        &self.own.places[..self.own.held as usize]
+    }
+}
+
+impl Default for Book {
+    fn default() -> Book {
+        Book::new()
+    }
+}
+
+impl PartialEq for Book {
+    fn eq(&self, other: &Book) -> bool {
+        (self.day(), self.held()) == (other.day(), other.held())
+    }
+}
+
+impl Eq for Book {}
+
+impl fmt::Debug for Book {
+    fn fmt(&self, f: &mut fmt::Formatter) -> fmt::Result {
+        f.debug_struct("Book").field("day", &self.day()).field("held", &self.held()).finish()
     }
 }
 
@@ -469,7 +552,7 @@ impl fmt::Display for Columns {
 impl error::Error for Refusal {}
 
 /// The refusals, in the words of README.md.
-const WORDS: [(u64, &str); 39] = [
+const WORDS: [(u64, &str); 41] = [
     (1, "file longer than 7,679,744 bytes (9,999 payments)"),
     (2, "file ends inside a record, or where one is due"),
     (3, "length digits wrong for the letter"),
@@ -503,7 +586,9 @@ const WORDS: [(u64, &str); 39] = [
     (41, "Z4 is not the number of T records"),
     (42, "Z3 is not the sum of all T14a (whole euros, no cents)"),
     (43, "prepare, M8: every payment would be returned"),
-    (50, "judge: the file number (Q4, Q6, Q7) is a taken one"),
+    (50, "judge, book: the file number (Q4, Q6, Q7) is a taken one"),
+    (51, "book: 200 numbers are held"),
+    (52, "book: the day is earlier than the book's"),
     (60, "prepare, M8, restore: output room shorter than the file that goes on or is restored, or than the M8 records"),
     (61, "prepare: more changes in the file that goes on than note places"),
     (62, "M8: the code table is not 96 bytes"),
@@ -597,6 +682,8 @@ fn answer<T>(refusal: Refusal, sound: T) -> Result<T, Refusal> {
 
 /// The calls of hosts/c/desk.h.
 mod c {
+    use super::{Entry, BOOK_PLACES};
+
     #[repr(C)]
     pub struct Judged {
         pub number: u64,
@@ -657,6 +744,20 @@ mod c {
     pub struct Part {
         pub start: u64,
         pub length: u64,
+    }
+
+    #[repr(C)]
+    #[derive(Clone, Copy)]
+    pub struct Book {
+        pub day: u32,
+        pub held: u64,
+        pub places: [Entry; BOOK_PLACES],
+    }
+
+    #[repr(C)]
+    pub struct Taken {
+        pub book: Book,
+        pub number: u64,
     }
 
     #[link(name = "host", kind = "static")]
@@ -755,5 +856,9 @@ mod c {
         ) -> Restored;
 
         pub fn desk_show(file: *const u8, n: usize, record: u64, field: u64) -> Part;
+
+        pub fn desk_book_new() -> Book;
+
+        pub fn desk_book_take(book: Book, file_number: u64, day: u32) -> Taken;
     }
 }

@@ -44,30 +44,22 @@
 //! nothing goes on, for it is refused or not restored, or an M8 record is missing; 2: used wrongly, or something could
 //! not be read or written; 3: all is done, but some payments come back.
 
+mod common;
 #[allow(dead_code)] // not every call is made here
 mod desk;
 
-use desk::{Answer, Judgement, Lists, Note, Page, Prepared, Reader, Refusal, M8_CODES, M8_RECORD, MOST_BYTES};
+use common::{
+    at_start, ended, failed, joined, no_page, page_of, path_of, read, refused, tell_refusal, told, wrong, Failure,
+    LISTS, Q, T, Z,
+};
+use desk::{Answer, Judgement, Note, Page, Prepared, Reader, Refusal, M8_CODES, M8_RECORD};
 use std::ffi::{OsStr, OsString};
 use std::fs::{self, File, OpenOptions};
-use std::io::{self, BufWriter, ErrorKind, Read, Stdout, Write};
+use std::io::{self, ErrorKind, Write};
 use std::ops::Range;
 use std::os::unix::{ffi::OsStrExt, fs::MetadataExt, io::AsFd};
 use std::path::{Path, PathBuf};
 use std::process::ExitCode;
-
-/// Annex II and Annex I of source document 000.
-const LISTS: Lists = Lists {
-    transfer: b"AFEGALDZAOAGGQARAMAWAZETAUBSBHBDBBBZBMBTBOBABWBRBNBIKYCLCNCRCWDODJCISVECERSZFKFOFJPFGAGMGEGHGIGLGBGTGGGNGYHTHNHK\
-        INIDIQIMILJMJPYEJEJOKHCMCACVKZQAKEKGCOCDXKKWLALSLBLYMOMGMWMYMVMLMAMUMXMDMNMEMZNANPNZNIANNENGMKOMPKPWPAPGPYPEPHPR\
-        CGRWRUSBZMWSSASNRSSCSLZWSGSOSJLKSHKNZAKRSSSRTJTWTZTHTGTOTTTDTNTRTMTCUGUAUYUSUZVUAEVNBYCF",
-    cheque: b"ARBOBRCLCRDOSVECGTGBHNCACOMXNIPAPYPEPRUYUSVE",
-};
-
-/// The bytes of the records.
-const Q: usize = 256;
-const T: usize = 768;
-const Z: usize = 256;
 
 /// Where fields stand in their records; of T10b the first line.
 const PAYEE: Range<usize> = 210..245;
@@ -89,9 +81,6 @@ const USAGE: &str =
 /// The word that stands for standard input.
 const INPUT: &str = "-";
 
-/// Something could not be done: what is said of it, in which a path keeps its very bytes.
-type Failure = OsString;
-
 /// How much of the file goes on: the status to end with.
 #[derive(Clone, Copy)]
 enum GoesOn {
@@ -108,14 +97,7 @@ fn main() -> ExitCode {
         [file, forwarded, notes] => work_on_file(way, Path::new(file), [Some(forwarded), Some(notes), way.m8]),
         _ => Err(USAGE.into()),
     });
-    match done {
-        Ok(goes_on) => ExitCode::from(goes_on as u8),
-        Err(mut line) => {
-            line.push("\n");
-            let _ = io::stderr().write_all(line.as_bytes()); // where this cannot be said either, the status says it
-            ExitCode::from(2)
-        }
-    }
+    ended(done.map(|goes_on| goes_on as u8))
 }
 
 /// How the file is to be prepared: on which page, whether as a whole or not at all, and where M8 records go, if they are
@@ -173,24 +155,9 @@ fn misplaced(way: Way, words: &[OsString]) -> Option<Failure> {
         }
         _ => {
             let mut paths = way.m8.into_iter().chain(words.iter().map(OsString::as_os_str));
-            let word = paths.find(|word| word.as_bytes().starts_with(b"-"))?;
-            Some(joined(&[&word, &": no option in this place; a file of that name is ./", &word]))
+            paths.find_map(|word| path_of(word).err())
         }
     }
-}
-
-/// The page for which a word asks.
-fn page_of(word: &OsStr) -> Result<Page, Failure> {
-    match word.to_str() {
-        Some("0") => Ok(Page::Din66003),
-        Some("1") => Ok(Page::Iso8859_1),
-        _ => Err(no_page(joined(&[&"page ", &word]))),
-    }
-}
-
-/// What is wrong with the page, and which there are.
-fn no_page(why: OsString) -> Failure {
-    joined(&[&why, &format!(": there is {} and {}", Page::Din66003, Page::Iso8859_1)])
 }
 
 /// The host's work on a file. The targets are those of the forwarded file, of the notes and of the M8 records.
@@ -229,15 +196,6 @@ fn feed_input(reader: &mut Reader) -> Result<(), Failure> {
     }
     let input = io::stdin().as_fd().try_clone_to_owned().map(File::from);
     input.and_then(|input| reader.feed_from(input, LISTS)).map_err(|error| failed(name, &error))
-}
-
-/// What was told on standard output, where all of it could be printed.
-fn told<T>(tell: impl FnOnce(&mut BufWriter<Stdout>) -> io::Result<T>) -> Result<T, Failure> {
-    let mut out = BufWriter::new(io::stdout());
-    match tell(&mut out).and_then(|told| out.flush().map(|()| told)) {
-        Ok(told) if !at_start::output_was_closed() => Ok(told),
-        _ => Err("standard output cannot be written".into()),
-    }
 }
 
 /// What goes on: the forwarded file, and its notes; the list of what comes back, and where they are asked for its M8
@@ -433,27 +391,9 @@ fn character(page: Page, byte: u8) -> char {
     }
 }
 
-/// Tells why nothing goes on. Prepare tells no field; the judge does, where it stops at the same rule. Where it stops at an
-/// earlier one, that is told too.
-fn tell_refusal(page: Page, refusal: Refusal, judged: Option<Refusal>, out: &mut impl Write) -> io::Result<()> {
-    let Refusal { number, record, .. } = refusal;
-    match judged {
-        Some(first) if (first.number, first.record) == (number, record) => refused(page, first, out),
-        Some(first) => {
-            refused(page, refusal, out)?;
-            writeln!(out, "first broken: {first}")
-        }
-        None => refused(page, refusal, out),
-    }
-}
-
 fn tell_sound(page: Page, judgement: Judgement, out: &mut impl Write) -> io::Result<()> {
     let Judgement { payments, euros, cents } = judgement;
     writeln!(out, "sound on {page}: {payments} payments, {euros} euros and {cents} cents")
-}
-
-fn refused(page: Page, refusal: Refusal, out: &mut impl Write) -> io::Result<()> {
-    writeln!(out, "refused on {page}: {refusal}")
 }
 
 /// Tells each change in the file that goes on. They are in Q and in T records alone.
@@ -468,14 +408,6 @@ fn tell_changes(forwarded: &[u8], notes: &[u32], out: &mut impl Write) -> io::Re
         writeln!(out, "record {record}, {field}, place {place}: hex {original:02X} becomes '{becomes}'")?;
     }
     writeln!(out, "{} characters changed", notes.len())
-}
-
-/// The file's bytes; of one that is too long, as many as show it.
-fn read(path: &Path) -> Result<Vec<u8>, Failure> {
-    let mut bytes = Vec::new();
-    let read = File::open(path).and_then(|file| file.take(MOST_BYTES + 1).read_to_end(&mut bytes));
-    read.map_err(|error| failed(path, &error))?;
-    Ok(bytes)
 }
 
 /// Where something is to be written, and the new file that becomes it.
@@ -595,56 +527,4 @@ fn write_new(path: &Path, bytes: &[u8]) -> Result<(), Failure> {
 fn removed(path: &Path, failure: Failure) -> Failure {
     let _ = fs::remove_file(path); // what failed first is what is told
     failure
-}
-
-/// What is wrong with a path, or with standard input.
-fn wrong(path: impl AsRef<OsStr>, why: &str) -> Failure {
-    joined(&[&path, &": ", &why])
-}
-
-fn joined(parts: &[&dyn AsRef<OsStr>]) -> OsString {
-    parts.iter().map(|part| part.as_ref()).collect()
-}
-
-/// The system's words for what is wrong with a path, without the number that Rust puts behind them.
-fn failed(path: impl AsRef<OsStr>, error: &io::Error) -> Failure {
-    let words = error.to_string();
-    wrong(path, words.split(" (os error ").next().unwrap_or(&words))
-}
-
-/// Before main begins, Rust's library opens /dev/null in place of a closed standard input or output: the one would be
-/// empty, and what is told on the other be lost, without a failure. So whether they are open is asked earlier, while the
-/// program is loaded.
-mod at_start {
-    use std::sync::atomic::{AtomicBool, Ordering::Relaxed};
-
-    static INPUT_WAS_CLOSED: AtomicBool = AtomicBool::new(false);
-    static OUTPUT_WAS_CLOSED: AtomicBool = AtomicBool::new(false);
-
-    pub fn input_was_closed() -> bool {
-        INPUT_WAS_CLOSED.load(Relaxed)
-    }
-
-    pub fn output_was_closed() -> bool {
-        OUTPUT_WAS_CLOSED.load(Relaxed)
-    }
-
-    #[used]
-    #[link_section = ".init_array"]
-    static LOOK: extern "C" fn() = look;
-
-    extern "C" fn look() {
-        INPUT_WAS_CLOSED.store(is_closed(0), Relaxed);
-        OUTPUT_WAS_CLOSED.store(is_closed(1), Relaxed);
-    }
-
-    fn is_closed(descriptor: i32) -> bool {
-        const F_GETFD: i32 = 1;
-        // SAFETY: it reads the flags of a descriptor, and answers -1 where that is closed.
-        unsafe { fcntl(descriptor, F_GETFD) == -1 }
-    }
-
-    extern "C" {
-        fn fcntl(descriptor: i32, command: i32, ...) -> i32;
-    }
 }

@@ -1,14 +1,14 @@
 -- The model in a book of 200 places (RULES 9.11), whatever book a call is handed.
-use Prim.Native.Nat.{ℕ, _+_, _-_}
+use Prim.Native.Nat.{ℕ, _-_}
 use mathlib.Core.Path.{_≡_}
 use mathlib.Core.Bool.{cond}
 use mathlib.Core.List.{List, _++_}
 use lib.Dec.{eqb}
-use lib.ListN.{length, take, set, replicate}
+use lib.ListN.{length, take, replicate}
 use Rattle.book.specs.declared.Entry.{Entry}
 use Rattle.book.specs.declared.Book.{Book}
 use Rattle.book.specs.declared.Taken.{Taken}
-use Rattle.book.specs.Model.{Model, model, empty, heldOn, answerOf, after}
+use Rattle.book.specs.Model.{Model, model, empty, answerOf, after}
 
 abbrev pub pair : ℕ → ℕ → Entry
 pair number day = record { number = number; day = day }
@@ -34,19 +34,12 @@ abbrev pub answered : Book → ℕ → Taken
 answered book number = record { book = book; number = number }
 
 -- a refused take leaves the very book that was handed in
-unfoldable pub tookOf : Book → Entry → Taken
-tookOf b e = answered (cond (eqb (answerOf (modelOf b) e) 0) (bookOf (after (modelOf b) e)) b) (answerOf (modelOf b) e)
+unfoldable pub takenOf : Book → Entry → Taken
+takenOf b e = answered (cond (eqb (answerOf (modelOf b) e) 0) (bookOf (after (modelOf b) e)) b) (answerOf (modelOf b) e)
 
 -- what is promised of a new book and of a take
 abbrev pub NewBookAs : Book → Type 0
 NewBookAs b = b ≡ newOf
 
-abbrev pub TookAs : Book → Entry → Taken → Type 0
-TookAs b e taken = taken ≡ tookOf b e
-
--- what the inner functions promise: the book on a day, without what is forgotten by then; and with one entry more
-abbrev pub onDay : Book → ℕ → Book
-onDay b day = bookOf (model day (heldOn day (heldIn b)))
-
-abbrev pub withEntry : Book → Entry → Book
-withEntry b e = record { day = b .day; held = b .held + 1; places = set (b .places) (b .held) e }
+abbrev pub TakenAs : Book → Entry → Taken → Type 0
+TakenAs b e taken = taken ≡ takenOf b e

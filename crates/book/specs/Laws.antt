@@ -14,7 +14,14 @@ use Rattle.fields.specs.Laws.{some-append}
 use Rattle.book.specs.declared.Entry.{Entry}
 use Rattle.book.specs.declared.Book.{Book}
 use Rattle.book.specs.Model.{Model, model, isForgotten, heldOn, holds, answerOf, after}
-use Rattle.book.specs.Kept.{pair, heldIn, modelOf, placesOf, bookOf, answered, tookOf, onDay, withEntry}
+use Rattle.book.specs.Kept.{pair, heldIn, modelOf, placesOf, bookOf, answered, takenOf}
+
+-- what the inner functions promise: the book on a day, without what is forgotten by then; and with one entry more
+abbrev pub onDay : Book → ℕ → Book
+onDay b day = bookOf (model day (heldOn day (heldIn b)))
+
+abbrev pub withEntry : Book → Entry → Book
+withEntry b e = record { day = b .day; held = b .held + 1; places = set (b .places) (b .held) e }
 
 -- a list has the length of what is made of it element by element
 pub unmapped : (B : Type 0) (f : Entry → B) (es : List Entry) (n : ℕ) → length (map f es) ≡ n → length es ≡ n
@@ -106,11 +113,11 @@ held-is m = take-append-seam (m .held) (replicate (200 - length (m .held)) (pair
 
 -- a take by what was found
 module _ (b : Book) (e : Entry) where
-  by-answer : {a : ℕ} → a ≡ answerOf (modelOf b) e → answered (cond (eqb a 0) (bookOf (after (modelOf b) e)) b) a ≡ tookOf b e
-  unfolding tookOf
+  by-answer : {a : ℕ} → a ≡ answerOf (modelOf b) e → answered (cond (eqb a 0) (bookOf (after (modelOf b) e)) b) a ≡ takenOf b e
+  unfolding takenOf
   by-answer h = ap (λ (a : ℕ). answered (cond (eqb a 0) (bookOf (after (modelOf b) e)) b) a) h
 
-  pub too-early : e .day < b .day → answered b 52 ≡ tookOf b e
+  pub too-early : e .day < b .day → answered b 52 ≡ takenOf b e
   unfolding answerOf
   too-early h = by-answer (on-lt _ h refl)
 
@@ -122,14 +129,14 @@ module _ (b : Book) (e : Entry) where
     found-there : found ≡ holds (e .number) (heldOn (e .day) (heldIn b))
     found-there = f ∙ ap (holds (e .number)) on-day
 
-    pub is-held : found ≡ true → answered b 50 ≡ tookOf b e
+    pub is-held : found ≡ true → answered b 50 ≡ takenOf b e
     unfolding answerOf
     is-held t = by-answer (off-lt _ h (on-call _ found-there t refl))
 
     many : length (heldOn (e .day) (heldIn b)) ≡ kept .held
     many = sym (ap (λ (x : Book). x .held) k)
 
-    pub is-full : found ≡ false → kept .held ≡ 200 → answered b 51 ≡ tookOf b e
+    pub is-full : found ≡ false → kept .held ≡ 200 → answered b 51 ≡ takenOf b e
     unfolding answerOf
     is-full n full = by-answer (off-lt _ h (off-call _ found-there n (on-eq _ (many ∙ full) refl)))
 
@@ -137,7 +144,7 @@ module _ (b : Book) (e : Entry) where
       pub has-room : kept .held < 200
       has-room = omega (arith, free, many, held-few (e .day) (heldIn b), length-take (b .held) (b .places), long)
 
-      pub is-taken : found ≡ false → {next : Book} → next ≡ withEntry kept e → answered next 0 ≡ tookOf b e
+      pub is-taken : found ≡ false → {next : Book} → next ≡ withEntry kept e → answered next 0 ≡ takenOf b e
       unfolding answerOf after
       is-taken n w =
           let few : length (heldOn (e .day) (heldIn b)) < 200 = omega (arith, has-room, many) in

@@ -17,6 +17,7 @@ abbrev pub heldOn : ℕ → List Entry → List Entry
 heldOn day [] = []
 heldOn day (e ∷ es) = cond (isForgotten day e) (heldOn day es) (e ∷ heldOn day es)
 
+-- a pair with this number is among them
 abbrev pub holds : ℕ → List Entry → Bool
 holds number es = some (λ (e : Entry). eqb (e .number) number) es
 
@@ -32,14 +33,17 @@ model day held = record { day = day; held = held }
 abbrev pub empty : Model
 empty = model 0 []
 
+-- what is "then still held": on the day of a take
+abbrev pub stillHeld : Model → Entry → List Entry
+stillHeld m e = heldOn (e .day) (m .held)
+
 -- "Refusals, in order: 52 for a day earlier than the book's, 50 for a held number after forgetting, 51 exactly when 200 are
 -- then still held." 0 is no refusal
 unfoldable pub answerOf : Model → Entry → ℕ
 answerOf m e =
     cond (ltb (e .day) (m .day)) 52
-    (cond (holds (e .number) (heldOn (e .day) (m .held))) 50
-    (cond (eqb (length (heldOn (e .day) (m .held))) 200) 51 0))
+    (cond (holds (e .number) (stillHeld m e)) 50 (cond (eqb (length (stillHeld m e)) 200) 51 0))
 
 -- "A refused call leaves the book, its day included, unchanged."
 unfoldable pub after : Model → Entry → Model
-after m e = cond (eqb (answerOf m e) 0) (model (e .day) (heldOn (e .day) (m .held) ++ (e ∷ []))) m
+after m e = cond (eqb (answerOf m e) 0) (model (e .day) (stillHeld m e ++ (e ∷ []))) m

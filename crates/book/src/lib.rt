@@ -4,7 +4,8 @@ ghost use mathlib.Core.List.{[]};
 ghost use Prim.Native.Nat.{_<_, min};
 ghost use lib.ListN.{take};
 ghost use Rattle.book.specs.Model.{model, isForgotten, holds};
-ghost use Rattle.book.specs.Kept.{pair, bookOf, answered, onDay, withEntry, NewBookAs, TookAs};
+ghost use Rattle.book.specs.Kept.{pair, bookOf, answered, NewBookAs, TakenAs};
+ghost use Rattle.book.specs.Laws.{onDay, withEntry};
 
 const PLACES: usize = 200;
 
@@ -78,7 +79,7 @@ impl Book {
         self
     }
 
-    // How many places hold a number, whatever the book says.
+    // How many places are read: as many as the book says, and at most all.
     fn filled(self) -> usize
         ensures { λ r. ⌜ r ≡ min 200 (self .held) ⌝ }
     {
@@ -99,6 +100,7 @@ impl Book {
         let mut i = 0;
         while i < end {
             let entry = old[i];
+            // not by `with`: the book would be copied for each entry
             if !is_forgotten(entry, day) {
                 let at = kept.held;
                 kept.places[at] = entry;
@@ -125,7 +127,7 @@ impl Book {
     }
 
     pub fn take(self, number: u64, day: u32) -> Taken
-        ensures { λ r. ⌜ TookAs self (pair number day) r ⌝ }
+        ensures { λ r. ⌜ TakenAs self (pair number day) r ⌝ }
     {
         if day < self.day {
             return answer(self, 52);

@@ -14,7 +14,7 @@ ghost use Rattle.prepare.specs.Prepared.{PreparedAs};
 ghost use Rattle.prepare.specs.Default.{DefaultAs};
 ghost use Rattle.restore.specs.Restored.{RestoredAs};
 ghost use Rattle.m8.specs.Filed.{FiledAs};
-ghost use Rattle.book.specs.Kept.{pair, NewBookAs, TookAs};
+ghost use Rattle.book.specs.Kept.{pair, NewBookAs, TakenAs};
 ghost use Rattle.host.specs.Answers.{CodedAs, PlacedAs};
 
 // The judge of document 01 for payroll hosts: page 0, no taken numbers, record × 100 + number.
@@ -153,7 +153,7 @@ pub extern "C" fn desk_book_new() -> Book
 
 #[no_mangle]
 pub extern "C" fn desk_book_take(book: Book, number: u64, day: u32) -> Taken
-    ensures { λ r. ⌜ TookAs book (pair number day) r ⌝ }
+    ensures { λ r. ⌜ TakenAs book (pair number day) r ⌝ }
 {
     book.take(number, day)
 }

@@ -15,18 +15,18 @@ use Rattle.book.specs.declared.Entry.{Entry}
 use Rattle.book.specs.declared.Book.{Book}
 use Rattle.book.specs.declared.Taken.{Taken}
 use Rattle.book.specs.Model.{Model, model, empty, isForgotten, heldOn, holds, answerOf, after}
-use Rattle.book.specs.Kept.{pair, heldIn, modelOf, bookOf, newOf, tookOf}
+use Rattle.book.specs.Kept.{heldIn, modelOf, bookOf, newOf, takenOf}
 use Rattle.book.specs.Laws.{held-append, held-is}
-use Rattle.keeping.specs.Keeping.{TookAll, Takes, answersBy, AnswersAsModel, noted, AnswersAsPlainSet, HeldFiveDays, RefusedKeepsBook, TakeNumbers, NewBookSettled, TakeSettled}
+use Rattle.keeping.specs.Keeping.{TakenAll, Takes, answersBy, AnswersAsModel, added, AnswersAsPlainSet, HeldFiveDays, RefusedKeepsBook, TakeNumbers, NewBookSettled, TakeSettled}
 use Rattle.keeping.proofs.Forgetting.{held-later, holds-not}
 
 same-model : (m : Model) → modelOf (bookOf m) ≡ m
 same-model m i = model (m .day) (held-is m i)
 
--- what each answer means
+-- what the answers 50 and 0 mean
 module _ (m : Model) (e : Entry) where
   pub record Accepted : Type 0 where
-    pub early : m .day ≤ e .day
+    pub in-time : m .day ≤ e .day
     pub free : holds (e .number) (heldOn (e .day) (m .held)) ≡ false
     pub room : length (heldOn (e .day) (m .held)) ≡ 200 → ⊥
 
@@ -44,7 +44,7 @@ module _ (m : Model) (e : Entry) where
       go false true z p q r = inr (inl (refl, q))
       go false false true p q r = inr (inr (inl refl))
       go false false false p q r =
-          inr (inr (inr (refl, record { early = ltb-false (e .day) (m .day) p; free = q; room = eqb-false (length (heldOn (e .day) (m .held))) 200 r })))
+          inr (inr (inr (refl, record { in-time = ltb-false (e .day) (m .day) p; free = q; room = eqb-false (length (heldOn (e .day) (m .held))) 200 r })))
 
   pub accepted : answerOf m e ≡ 0 → Accepted
   accepted z = go means
@@ -65,24 +65,24 @@ module _ (m : Model) (e : Entry) where
   unfolding after
   taken-is h = sym (on _ h refl)
 
-  took-number : tookOf (bookOf m) e .number ≡ answerOf m e
-  unfolding tookOf
+  took-number : takenOf (bookOf m) e .number ≡ answerOf m e
+  unfolding takenOf
   took-number = ap (λ (x : Model). answerOf x e) (same-model m)
 
-  took-book : tookOf (bookOf m) e .book ≡ bookOf (after m e)
-  unfolding tookOf
+  took-book : takenOf (bookOf m) e .book ≡ bookOf (after m e)
+  unfolding takenOf
   took-book = ap (λ (x : Model). cond (eqb (answerOf x e) 0) (bookOf (after x e)) (bookOf m)) (same-model m) ∙ go (eqb (answerOf m e) 0) refl
     where
       go : (b : Bool) → eqb (answerOf m e) 0 ≡ b → cond b (bookOf (after m e)) (bookOf m) ≡ bookOf (after m e)
       go true h = refl
       go false h = ap bookOf (sym (refused-stays h))
 
-all-from : (m : Model) (b : Book) (es : List Entry) (answers : List ℕ) (last : Book) → b ≡ bookOf m → TookAll b es answers last
+all-from : (m : Model) (b : Book) (es : List Entry) (answers : List ℕ) (last : Book) → b ≡ bookOf m → TakenAll b es answers last
     → (answers ≡ answersBy after m es) × (last ≡ bookOf (fold after m es))
 all-from m b [] answers last p t = (t .0, t .1 ∙ p)
 all-from m b (e ∷ es) answers last p (taken, took, rest, is, more) =
-    let number : taken .number ≡ answerOf m e = ap (λ (x : Taken). x .number) took ∙ ap (λ (x : Book). tookOf x e .number) p ∙ took-number m e in
-    let book : taken .book ≡ bookOf (after m e) = ap (λ (x : Taken). x .book) took ∙ ap (λ (x : Book). tookOf x e .book) p ∙ took-book m e in
+    let number : taken .number ≡ answerOf m e = ap (λ (x : Taken). x .number) took ∙ ap (λ (x : Book). takenOf x e .number) p ∙ took-number m e in
+    let book : taken .book ≡ bookOf (after m e) = ap (λ (x : Taken). x .book) took ∙ ap (λ (x : Book). takenOf x e .book) p ∙ took-book m e in
     let then = all-from (after m e) (taken .book) es rest last book more in
     (is ∙ ap₂ (λ (n : ℕ) (ns : List ℕ). n ∷ ns) number (then .0), then .1)
 
@@ -114,44 +114,44 @@ module _ (m all : Model) (alike : Alike m all) (e : Entry) where
       go true h = on _ (ap (ltb (e .day)) (sym (alike .days)) ∙ h) refl
       go false h = off _ (ap (ltb (e .day)) (sym (alike .days)) ∙ h) (ap inner (alike .later (e .day) (ltb-false (e .day) (m .day) h)))
 
-  still-alike : Alike (after m e) (noted all e)
+  still-alike : Alike (after m e) (added all e)
   still-alike = go (eqb (answerOf m e) 0) refl
     where
       one : List Entry
       one = e ∷ []
 
-      go : (b : Bool) → eqb (answerOf m e) 0 ≡ b → Alike (after m e) (noted all e)
+      go : (b : Bool) → eqb (answerOf m e) 0 ≡ b → Alike (after m e) (added all e)
       go false h =
-          subst (λ (x : Model). Alike x (noted all e)) (sym (refused-stays m e h))
+          subst (λ (x : Model). Alike x (added all e)) (sym (refused-stays m e h))
           (subst (Alike m) (off _ (ap (λ (n : ℕ). eqb n 0) (sym same-answer) ∙ h) refl) alike)
       go true h =
-          let early : m .day ≤ e .day = accepted m e (eqb-true (answerOf m e) 0 h) .early in
-          subst (λ (x : Model). Alike x (noted all e)) (sym (taken-is m e h))
+          let in-time : m .day ≤ e .day = accepted m e (eqb-true (answerOf m e) 0 h) .in-time in
+          subst (λ (x : Model). Alike x (added all e)) (sym (taken-is m e h))
           (subst (Alike (model (e .day) (heldOn (e .day) (m .held) ++ one))) (on _ (ap (λ (n : ℕ). eqb n 0) (sym same-answer) ∙ h) refl)
           record {
             days = refl;
             later = λ day l.
                 held-append day (heldOn (e .day) (m .held)) one
-                ∙ ap (λ (xs : List Entry). xs ++ heldOn day one) (held-later (e .day) day l (m .held) ∙ alike .later day (omega (arith, early, l)))
+                ∙ ap (λ (xs : List Entry). xs ++ heldOn day one) (held-later (e .day) day l (m .held) ∙ alike .later day (omega (arith, in-time, l)))
                 ∙ sym (held-append day (all .held) one);
           })
 
-plain-from : (m all : Model) → Alike m all → (es : List Entry) → answersBy after m es ≡ answersBy noted all es
+plain-from : (m all : Model) → Alike m all → (es : List Entry) → answersBy after m es ≡ answersBy added all es
 plain-from m all alike [] = refl
 plain-from m all alike (e ∷ es) =
-    ap₂ (λ (n : ℕ) (ns : List ℕ). n ∷ ns) (same-answer m all alike e) (plain-from (after m e) (noted all e) (still-alike m all alike e) es)
+    ap₂ (λ (n : ℕ) (ns : List ℕ). n ∷ ns) (same-answer m all alike e) (plain-from (after m e) (added all e) (still-alike m all alike e) es)
 
 pub answers-as-plain-set : AnswersAsPlainSet
 answers-as-plain-set es answers last t =
     all-takes es answers last t .0 ∙ plain-from empty empty record { days = refl; later = λ day l. refl } es
 
 pub refused-keeps-book : RefusedKeepsBook
-unfolding tookOf
+unfolding takenOf
 refused-keeps-book b e taken took z =
     ap (λ (x : Taken). x .book) took ∙ sym (off-eq _ (λ n. z (ap (λ (x : Taken). x .number) took ∙ n)) refl)
 
 pub take-numbers : TakeNumbers
-unfolding tookOf
+unfolding takenOf
 take-numbers b e taken took = subst Numbers (sym (ap (λ (x : Taken). x .number) took)) (go (means (modelOf b) e))
   where
     Numbers : ℕ → Type 0
@@ -167,51 +167,51 @@ pub new-book-settled : NewBookSettled
 new-book-settled = record { some = (newOf, refl); coincide = λ a b p q. p ∙ sym q }
 
 pub take-settled : TakeSettled
-take-settled b e = record { some = (tookOf b e, refl); coincide = λ x y p q. p ∙ sym q }
+take-settled b e = record { some = (takenOf b e, refl); coincide = λ x y p q. p ∙ sym q }
 
 -- a number that was just taken, on a later day
-module _ (held : List Entry) (number day later : ℕ) (free : holds number held ≡ false) (l : day ≤ later) where
-  only : holds number (heldOn later (held ++ (pair number day ∷ []))) ≡ holds number (heldOn later (pair number day ∷ []))
+module _ (held : List Entry) (e later : Entry) (same : later .number ≡ e .number) (free : holds (e .number) held ≡ false) (l : e .day ≤ later .day) where
+  only : holds (later .number) (heldOn (later .day) (held ++ (e ∷ []))) ≡ holds (later .number) (heldOn (later .day) (e ∷ []))
   only =
-      ap (holds number) (held-append later held (pair number day ∷ []))
-      ∙ some-append (λ (e : Entry). eqb (e .number) number) (heldOn later held) (heldOn later (pair number day ∷ []))
-      ∙ ap (λ (b : Bool). b || holds number (heldOn later (pair number day ∷ []))) (holds-not number later held free)
+      let not-before : holds (later .number) held ≡ false = ap (λ (n : ℕ). holds n held) same ∙ free in
+      ap (holds (later .number)) (held-append (later .day) held (e ∷ []))
+      ∙ some-append (λ (x : Entry). eqb (x .number) (later .number)) (heldOn (later .day) held) (heldOn (later .day) (e ∷ []))
+      ∙ ap (λ (b : Bool). b || holds (later .number) (heldOn (later .day) (e ∷ []))) (holds-not (later .number) (later .day) held not-before)
 
-  found : (b : Bool) → isForgotten later (pair number day) ≡ b → holds number (heldOn later (held ++ (pair number day ∷ []))) ≡ not b
-  found b h = only ∙ ap (λ (x : Bool). holds number (cond x [] (pair number day ∷ []))) h ∙ go b
+  found : (b : Bool) → isForgotten (later .day) e ≡ b → holds (later .number) (heldOn (later .day) (held ++ (e ∷ []))) ≡ not b
+  found b h = only ∙ ap (λ (x : Bool). holds (later .number) (cond x [] (e ∷ []))) h ∙ go b
     where
-      go : (x : Bool) → holds number (cond x [] (pair number day ∷ [])) ≡ not x
+      go : (x : Bool) → holds (later .number) (cond x [] (e ∷ [])) ≡ not x
       go true = refl
-      go false = ap (λ (x : Bool). x || false) (eq-eqb number number refl)
+      go false = ap (λ (x : Bool). x || false) (eq-eqb (e .number) (later .number) (sym same))
 
   abbrev again : ℕ
-  again = answerOf (model day (held ++ (pair number day ∷ []))) (pair number later)
+  again = answerOf (model (e .day) (held ++ (e ∷ []))) later
 
-  still-held : later < day + 5 → again ≡ 50
+  still-held : later .day < e .day + 5 → again ≡ 50
   unfolding answerOf
   still-held h =
-      let kept : isForgotten later (pair number day) ≡ false = lt-leb 5 (later - day) (omega (arith, h, l)) in
+      let kept : isForgotten (later .day) e ≡ false = lt-leb 5 (later .day - e .day) (omega (arith, h, l)) in
       sym (off-lt _ l (on _ (found false kept) refl))
 
-  held-so-long : again ≡ 50 → later < day + 5
-  held-so-long h = go (isForgotten later (pair number day)) refl (means (model day (held ++ (pair number day ∷ []))) (pair number later))
+  held-so-long : again ≡ 50 → later .day < e .day + 5
+  held-so-long h = go (isForgotten (later .day) e) refl (means (model (e .day) (held ++ (e ∷ []))) later)
     where
-      go : (b : Bool) → isForgotten later (pair number day) ≡ b → Means (model day (held ++ (pair number day ∷ []))) (pair number later) again → later < day + 5
-      go false p w = omega (arith, leb-false 5 (later - day) p)
+      go : (b : Bool) → isForgotten (later .day) e ≡ b → Means (model (e .day) (held ++ (e ∷ []))) later again → later .day < e .day + 5
+      go false p w = omega (arith, leb-false 5 (later .day - e .day) p)
       go true p (inl q) = absurd (omega (arith, h, q))
       go true p (inr (inl q)) = absurd (false≢true (sym (found true p) ∙ q .1))
       go true p (inr (inr (inl q))) = absurd (omega (arith, h, q))
       go true p (inr (inr (inr q))) = absurd (omega (arith, h, q .0))
 
 pub held-five-days : HeldFiveDays
-unfolding tookOf
-held-five-days b number day later taken next took z l took-next =
-    let e = pair number day in
+unfolding takenOf
+held-five-days b e later taken next took z same l took-next =
+    let held = heldOn (e .day) (heldIn b) in
     let zero : answerOf (modelOf b) e ≡ 0 = sym (ap (λ (x : Taken). x .number) took) ∙ z in
     let free = accepted (modelOf b) e zero .free in
-    let book : taken .book ≡ bookOf (model day (heldOn day (heldIn b) ++ (e ∷ []))) =
+    let book : taken .book ≡ bookOf (model (e .day) (held ++ (e ∷ []))) =
     ap (λ (x : Taken). x .book) took ∙ sym (on-eq _ zero refl) ∙ ap bookOf (taken-is (modelOf b) e (eq-eqb (answerOf (modelOf b) e) 0 zero)) in
-    let number-is : next .number ≡ again (heldOn day (heldIn b)) number day later free l =
-    ap (λ (x : Taken). x .number) took-next ∙ ap (λ (x : Book). tookOf x (pair number later) .number) book
-    ∙ took-number (model day (heldOn day (heldIn b) ++ (e ∷ []))) (pair number later) in
-    (λ h. held-so-long (heldOn day (heldIn b)) number day later free l (sym number-is ∙ h), λ h. number-is ∙ still-held (heldOn day (heldIn b)) number day later free l h)
+    let number-is : next .number ≡ again held e later same free l =
+    ap (λ (x : Taken). x .number) took-next ∙ ap (λ (x : Book). takenOf x later .number) book ∙ took-number (model (e .day) (held ++ (e ∷ []))) later in
+    (λ h. held-so-long held e later same free l (sym number-is ∙ h), λ h. number-is ∙ still-held held e later same free l h)

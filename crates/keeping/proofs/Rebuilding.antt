@@ -21,7 +21,7 @@ use Rattle.keeping.proofs.Keeping.{accepted, refused-stays, taken-is, a
 
 -- a take that is accepted, and by which nothing is forgotten
 pub record Joins (m : Model) (e : Entry) : Type 0 where
-  pub early : m .day ≤ e .day
+  pub in-time : m .day ≤ e .day
   pub free : holds (e .number) (m .held) ≡ false
   pub room : length (m .held) < 200
   pub stay : heldOn (e .day) (m .held) ≡ m .held
@@ -34,7 +34,7 @@ abbrev Runs : Model → List Entry → Type 0
 Runs m [] = Unit {0}
 Runs m (e ∷ es) = Joins m e × Runs (with m e) es
 
--- the day after them
+-- the book's day after them
 abbrev lastDay : ℕ → List Entry → ℕ
 lastDay day [] = day
 lastDay day (e ∷ es) = lastDay (e .day) es
@@ -44,7 +44,7 @@ module _ (m : Model) (e : Entry) (j : Joins m e) where
   unfolding answerOf
   is-zero =
       let room : length (heldOn (e .day) (m .held)) ≡ 200 → ⊥ = λ full. omega (arith, j .room, full, ap length (j .stay)) in
-      sym (off-lt _ (j .early) (off _ (ap (holds (e .number)) (j .stay) ∙ j .free) (off-eq _ room refl)))
+      sym (off-lt _ (j .in-time) (off _ (ap (holds (e .number)) (j .stay) ∙ j .free) (off-eq _ room refl)))
 
   is-with : after m e ≡ with m e
   unfolding after
@@ -83,7 +83,7 @@ module _ (day : ℕ) where
 
   runs-held : (hs es : List Entry) (k low : ℕ) → low ≤ k → Runs (model k hs) es → Runs (model low (heldOn day hs)) (heldOn day es)
   runs-held hs [] k low l r = tt
-  runs-held hs (e ∷ es) k low l r = go (isForgotten day e) refl (runs-held (hs ++ (e ∷ [])) es (e .day)) (r .0 .early)
+  runs-held hs (e ∷ es) k low l r = go (isForgotten day e) refl (runs-held (hs ++ (e ∷ [])) es (e .day)) (r .0 .in-time)
     where
       go : (b : Bool) → isForgotten day e ≡ b
           → ((low' : ℕ) → low' ≤ e .day → Runs (model (e .day) (hs ++ (e ∷ []))) es → Runs (model low' (heldOn day (hs ++ (e ∷ [])))) (heldOn day es))
@@ -92,7 +92,7 @@ module _ (day : ℕ) where
           subst (λ (xs : List Entry). Runs (model low xs) (heldOn day es)) (forgets hs e true h ∙ append-nil (heldOn day hs)) (then low (omega (arith, l, late)) (r .1))
       go false h then late = (
         record {
-          early = omega (arith, l, late);
+          in-time = omega (arith, l, late);
           free = holds-not (e .number) day hs (r .0 .free);
           room = omega (arith, held-few day hs, r .0 .room);
           stay = held-turned (e .day) day hs ∙ ap (heldOn day) (r .0 .stay);
@@ -102,7 +102,7 @@ module _ (day : ℕ) where
 
   last-held : (hs es : List Entry) (k low : ℕ) → low ≤ k → Runs (model k hs) es → lastDay low (heldOn day es) ≤ lastDay k es
   last-held hs [] k low l r = l
-  last-held hs (e ∷ es) k low l r = go (isForgotten day e) (last-held (hs ++ (e ∷ [])) es (e .day)) (r .0 .early)
+  last-held hs (e ∷ es) k low l r = go (isForgotten day e) (last-held (hs ++ (e ∷ [])) es (e .day)) (r .0 .in-time)
     where
       go : (b : Bool) → ((low' : ℕ) → low' ≤ e .day → Runs (model (e .day) (hs ++ (e ∷ []))) es → lastDay low' (heldOn day es) ≤ lastDay (e .day) es) → k ≤ e .day
           → lastDay low (cond b (heldOn day es) (e ∷ heldOn day es)) ≤ lastDay (e .day) es
@@ -122,7 +122,7 @@ module _ (m : Model) (e : Entry) (r : Reached m) where
   joins z =
       let a = accepted m e z in
       record {
-        early = omega (arith, a .early, r .last, last-held (e .day) [] (m .held) 0 0 (omega arith) (r .runs));
+        in-time = omega (arith, a .in-time, r .last, last-held (e .day) [] (m .held) 0 0 (omega arith) (r .runs));
         free = a .free;
         room = omega (arith, a .room, held-few (e .day) (m .held), runs-few empty (m .held) (r .runs) (omega arith));
         stay = held-later (e .day) (e .day) (omega arith) (m .held);

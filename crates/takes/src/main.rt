@@ -14,7 +14,7 @@ fn takes(edge: &[u8], book: Book, number: u64, day: u32) -> Book {
     after
 }
 
-// The numbers from one up to another, all taken on one day, without a line.
+// The numbers from `first` on, without `end`, all taken on one day and without a line.
 fn with_many(book: Book, first: u64, end: u64, day: u32) -> Book {
     let mut after = book;
     let mut number = first;

@@ -1,0 +1,169 @@
+//! A host: keeps the numbers of the files that were sent in a book, so that none is sent twice. A file's number is taken on
+//! a business day, which the office counts, and is forgotten five days later.
+//!
+//!     book BOOK new                           makes a book file: on day 0, nothing is held
+//!     book [--page 0|1] BOOK take DAY FILE    takes the number of FILE on DAY, if something of FILE goes on
+//!     book BOOK list                          tells the book's day, what is held, and from which day on it is free
+//!
+//! The page says at which codes FILE has the four German characters: 0 is DIN 66003, 1 is ISO 8859-1. Where none is named
+//! it is 1. DAY is a number from 0 to 4294967295, in digits. A path that begins with - is written as ./-name.
+//!
+//! Something of FILE goes on where prepare, the default way, does not refuse it. Payments that break a rule come back: how
+//! many is told, and they need a file of another number.
+//!
+//! It loses no number, and nothing that fails changes BOOK:
+//! 1. new makes a file where nothing is. What is there already is never replaced.
+//! 2. take reads FILE and prepares it in memory. Where it is refused, that is told, and BOOK is not touched.
+//! 3. BOOK.new is made: the path of BOOK with .new behind it. Only one program can make it, so no two take a number at the
+//!    same time. Where it is there already, as a killed run leaves it, it stays and the run ends.
+//! 4. Only then is BOOK read. Every byte has to be as a desk writes it (docs/BOOK-FILE.md), and BOOK to be a regular file, no
+//!    symbolic link. The number is taken in memory. Where it is refused, that is told.
+//! 5. The new book is written to BOOK.new, down to the disk, and all is told. Where it cannot be printed nothing is taken.
+//! 6. BOOK.new is renamed to BOOK, in one step. So at every moment BOOK is the whole old book or the whole new one.
+//!
+//! Where a step fails or the number is refused, BOOK.new is removed, and BOOK is as it was, byte for byte. That a number is
+//! taken is told before BOOK.new is renamed: where that fails it is said, and where a run is killed just then, list tells
+//! whether the number is held. At last the directory is synced; where only that fails, the new book is in place, and it is
+//! said that a power cut may undo it.
+//!
+//! Status 0: done; 1: FILE is refused, or its number is; 2: used wrongly, or something could not be read or written.
+
+#[allow(dead_code)] // not all of it is used here
+mod bookfile;
+#[allow(dead_code)]
+mod common;
+#[allow(dead_code)]
+mod desk;
+
+use bookfile::{read_book, BookFile, BookFileError};
+use common::{ended, failed, joined, no_page, page_of, path_of, read, tell_refusal, told, Failure, LISTS, T};
+use desk::{Book, Entry, Page, Prepared, Refusal, BOOK_PLACES};
+use std::ffi::{OsStr, OsString};
+use std::io::{self, Write};
+use std::path::Path;
+use std::process::ExitCode;
+
+const USAGE: &str = "usage: book BOOK new, or book [--page 0|1] BOOK take DAY FILE, or book BOOK list";
+
+/// What became of it: the status to end with.
+#[derive(Clone, Copy)]
+enum End {
+    Done = 0,
+    Refused = 1,
+}
+
+fn main() -> ExitCode {
+    let words: Vec<OsString> = std::env::args_os().skip(1).collect();
+    ended(work(&words).map(|end| end as u8))
+}
+
+/// What the words ask for.
+fn work(words: &[OsString]) -> Result<End, Failure> {
+    let (page, words) = match words {
+        [option] if option == "--page" => return Err(no_page("--page names no page".into())),
+        [option, word, behind @ ..] if option == "--page" => (Some(page_of(word)?), behind),
+        _ => (None, words),
+    };
+    match (page, words) {
+        (None, [book, work]) if work == "new" => make(path_of(book)?),
+        (None, [book, work]) if work == "list" => list(path_of(book)?),
+        (_, [book, work, day, file]) if work == "take" => {
+            take(page.unwrap_or(Page::Iso8859_1), path_of(book)?, day_of(day)?, path_of(file)?)
+        }
+        _ => Err(USAGE.into()),
+    }
+}
+
+/// The day that a word names.
+fn day_of(word: &OsStr) -> Result<u32, Failure> {
+    let digits = word.to_str().filter(|word| word.bytes().all(|byte| byte.is_ascii_digit()));
+    let day = digits.and_then(|digits| digits.parse().ok());
+    day.ok_or_else(|| joined(&[&"day ", &word, &": a day is a number from 0 to 4294967295, in digits"]))
+}
+
+/// Makes a book file.
+fn make(path: &Path) -> Result<End, Failure> {
+    let file = BookFile::create(path).map_err(failure)?;
+    let book = file.book().clone();
+    let written = file.write().map_err(failure)?;
+    told(|out| tell_book(&book, out))?;
+    written.put_in_place().map_err(failure)?;
+    Ok(End::Done)
+}
+
+/// Tells what a book file holds.
+fn list(path: &Path) -> Result<End, Failure> {
+    let book = read_book(path).map_err(failure)?;
+    told(|out| {
+        tell_book(&book, out)?;
+        book.held().iter().try_for_each(|entry| tell_entry(entry, out))
+    })?;
+    Ok(End::Done)
+}
+
+/// Takes the number of a file.
+fn take(page: Page, book_path: &Path, day: u32, path: &Path) -> Result<End, Failure> {
+    let file = read(path)?;
+    let (number, sent) = match prepare(page, &file) {
+        Ok(sent) => sent,
+        Err(refusal) => {
+            let judged = desk::judge(page, &file, LISTS, &[]).err();
+            told(|out| tell_refusal(page, refusal, judged, out))?;
+            return Ok(End::Refused);
+        }
+    };
+    let mut file = BookFile::open(book_path).map_err(failure)?;
+    if let Err(refusal) = file.take(number, day) {
+        told(|out| tell_not_taken(file.book(), Entry { number, day }, refusal, out))?;
+        return Ok(End::Refused);
+    }
+    let book = file.book().clone();
+    let written = file.write().map_err(failure)?;
+    told(|out| {
+        writeln!(out, "on {page} {} payments go on, {} come back", sent.kept, sent.returned)?;
+        tell_entry(&Entry { number, day }, out)?;
+        tell_book(&book, out)
+    })?;
+    written.put_in_place().map_err(failure)?;
+    Ok(End::Done)
+}
+
+/// The number of a file of which something goes on, and how much.
+fn prepare(page: Page, file: &[u8]) -> Result<(u64, Prepared), Refusal> {
+    let (mut forwarded, mut notes) = (vec![0; file.len()], vec![0; file.len()]);
+    let mut returned = vec![0; file.len() / T];
+    let sent = desk::prepare(page, file, LISTS, &mut forwarded, &mut notes, &mut returned)?;
+    let number = desk::file_number(file).expect("rules 11, 13 and 14 ask for digits");
+    Ok((number, sent))
+}
+
+/// Tells why a number is not taken, and from which day on it might be.
+fn tell_not_taken(book: &Book, asked: Entry, refusal: Refusal, out: &mut impl Write) -> io::Result<()> {
+    writeln!(out, "refused on day {}: {refusal}", asked.day)?;
+    match (refusal.number, book.held()) {
+        (50, held) => held.iter().filter(|entry| entry.number == asked.number).try_for_each(|e| tell_entry(e, out))?,
+        (51, [first, ..]) => writeln!(out, "the next place is {}", free(first))?,
+        _ => {}
+    }
+    tell_book(book, out)
+}
+
+fn tell_entry(entry: &Entry, out: &mut impl Write) -> io::Result<()> {
+    writeln!(out, "file number {}: taken on day {}, {}", entry.number, entry.day, free(entry))
+}
+
+/// When the place of a number is free again, and the number.
+fn free(entry: &Entry) -> String {
+    match entry.free_from() {
+        Some(day) => format!("free from day {day} on"),
+        None => "not free on any day that is left".into(),
+    }
+}
+
+fn tell_book(book: &Book, out: &mut impl Write) -> io::Result<()> {
+    writeln!(out, "the book is on day {}, with {} of {BOOK_PLACES} places held", book.day(), book.held().len())
+}
+
+fn failure(error: BookFileError) -> Failure {
+    failed(error.path, &error.why)
+}
