@@ -33,6 +33,9 @@ room c =
     let a = c .before .before .before .before .before .args in
     omega (arith, few c, ap (λ (b : Book). b .held) (l .inv .2), held-few (a .day) (take (l .i) (a .self .places)), length-take (l .i) (a .self .places))
 
+loop-holds : tie.Need-loop-holds Inv-loop μ-loop
+loop-holds c = (search needs, omega (arith, c .before .filled .ensures), c .empty .ensures)
+
 loop-again : tie.Need-loop-again Inv-loop μ-loop
 loop-again c =
     let l = c .before .before .before .before .loop in
@@ -58,7 +61,7 @@ on-spec =
     μ-loop
     (λ c κs. search needs)
     (λ c κs. search needs)
-    (λ c. (search needs, omega (arith, c .before .filled .ensures), c .empty .ensures))
+    loop-holds
     (λ c. record { fits = omega (arith, few c) })
     (λ c. few c)
     (λ c κs. search needs)
