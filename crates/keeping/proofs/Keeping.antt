@@ -96,7 +96,7 @@ answers-as-model es answers last t =
     let a = all-takes es answers last t in
     (a .0, ap modelOf (a .1) ∙ same-model (fold after empty es))
 
--- a model that forgets, and one that notes all: on the same day, and from it on they hold the same
+-- a model that forgets, and one to which pairs are only added: on the same day, and from it on they hold the same
 pub record Alike (m all : Model) : Type 0 where
   pub days : m .day ≡ all .day
   pub later : (day : ℕ) → m .day ≤ day → heldOn day (m .held) ≡ heldOn day (all .held)
