@@ -205,9 +205,9 @@ desk_part desk_show(const uint8_t *file, size_t n, uint64_t record, uint64_t fie
    file number is held on that day; 51, all 200 places hold one on that day. A refused take forgets nothing and leaves the
    day, so the next one may be on any day from the book's on. A call changes no book in place. What is taken on one of the
    last five days is never forgotten: there is no day five later.
-   Any book may be handed in, also one that no takes from a new book leave; it is read as it stands. Where held is more than 200, all places
-   count. Each place counts by itself, also where a number stands in two. A number whose day is later than that of the take is
-   held. Books have padding, so compare them by their fields. */
+   Any book may be handed in, also one that no takes from a new book leave; it is read as it stands. Where held is more than
+   200, all places count. Each place counts by itself, also where a number stands in two. A number whose day is later than
+   that of the take is held. Books have padding, so compare them by their fields. */
 desk_book desk_book_new(void);
 desk_taken desk_book_take(desk_book book, uint64_t file_number, uint32_t day);
 

@@ -396,7 +396,7 @@ impl Book {
 
     /// Takes a file number on a day: the book is on that day then, and what was forgotten by then is gone from it. Refused,
     /// in this order: 52 where the day is earlier than the book's; 50 where the number is held on that day; 51 where 200
-    /// others are. A refused take leaves the book as it is, its day included: it forgets nothing.
+    /// are. A refused take leaves the book as it is, its day included: it forgets nothing.
     pub fn take(&mut self, number: u64, day: u32) -> Result<(), Refusal> {
         // SAFETY: it takes values alone.
         let c::Taken { book, number } = unsafe { c::desk_book_take(self.own, number, day) };
