@@ -1,5 +1,5 @@
 -- The model in a book of 200 places (RULES 9.11), whatever book a call is handed.
-use Prim.Native.Nat.{ℕ, _-_}
+use Prim.Native.Nat.{ℕ, _-_, _%_, _^_}
 use mathlib.Core.Path.{_≡_}
 use mathlib.Core.Bool.{cond}
 use mathlib.Core.List.{List, _++_}
@@ -8,24 +8,34 @@ use lib.ListN.{length, take, replicate}
 use Rattle.book.specs.declared.Entry.{Entry}
 use Rattle.book.specs.declared.Book.{Book}
 use Rattle.book.specs.declared.Taken.{Taken}
-use Rattle.book.specs.Model.{Model, model, empty, answerOf, after}
+use Rattle.book.specs.declared.Totals.{Totals}
+use Rattle.book.specs.Model.{Model, model, empty, paymentsOf, eurosOf, answerOf, after}
 
-abbrev pub pair : ℕ → ℕ → Entry
-pair number day = record { number = number; day = day }
+abbrev pub entryOf : ℕ → ℕ → ℕ → ℕ → Entry
+entryOf number day payments euros = record { number = number; day = day; payments = payments; euros = euros }
 
--- the pairs in the first places, as many as the book says; where it says more than 200, all
+-- what is in the first places, as many as the book says; where it says more than 200, in all
 abbrev pub heldIn : Book → List Entry
 heldIn b = take (b .held) (b .places)
 
 abbrev pub modelOf : Book → Model
 modelOf b = model (b .day) (heldIn b)
 
--- the pairs in the first places, and zeros behind them
+-- what is held in the first places, and zeros behind it
 abbrev pub placesOf : List Entry → List Entry
-placesOf es = es ++ replicate (200 - length es) (pair 0 0)
+placesOf es = es ++ replicate (200 - length es) (entryOf 0 0 0 0)
 
+-- A8: "the book holds both totals", in 64 bits each: of what takes from a new book hold they are the very sums
+-- (keeping/Keeping `TotalsAreSums`)
 abbrev pub bookOf : Model → Book
-bookOf m = record { day = m .day; held = length (m .held); places = placesOf (m .held) }
+bookOf m =
+    record {
+      day = m .day;
+      held = length (m .held);
+      payments = paymentsOf (m .held) % 2 ^ 64;
+      euros = eurosOf (m .held) % 2 ^ 64;
+      places = placesOf (m .held);
+    }
 
 unfoldable pub newOf : Book
 newOf = bookOf empty
@@ -37,9 +47,16 @@ answered book number = record { book = book; number = number }
 unfoldable pub takenOf : Book → Entry → Taken
 takenOf b e = answered (cond (eqb (answerOf (modelOf b) e) 0) (bookOf (after (modelOf b) e)) b) (answerOf (modelOf b) e)
 
--- what is promised of a new book and of a take
+-- the totals as the book has them, whatever book it is
+unfoldable pub totalsOf : Book → Totals
+totalsOf b = record { files = b .held; payments = b .payments; euros = b .euros }
+
+-- what is promised of a new book, of a take and of the totals
 abbrev pub NewBookAs : Book → Type 0
 NewBookAs b = b ≡ newOf
 
 abbrev pub TakenAs : Book → Entry → Taken → Type 0
 TakenAs b e taken = taken ≡ takenOf b e
+
+abbrev pub TotalsAs : Book → Totals → Type 0
+TotalsAs b totals = totals ≡ totalsOf b

@@ -1,8 +1,9 @@
 -- One place more: what is held in the places so far, and the book that holds it.
-use Prim.Native.Nat.{ℕ, suc, _+_, _-_, _≤_, _<_, min}
+use Prim.Native.Nat.{ℕ, suc, _+_, _-_, _%_, _^_, _≤_, _<_, min}
 use mathlib.Core.Path.{_≡_, refl, sym, ap, _∙_}
 use mathlib.Core.Bool.{Bool, true, false, _||_, cond, or-false}
 use mathlib.Core.List.{List, [], _∷_, _++_, append-nil, map}
+use native.Mathlib.Nat.{mod-add-mod}
 use native.Mathlib.Omega.{arith}
 use native.Mathlib.Numerals.{add-one}
 use borrow.Author.Tests.{leb-true, leb-false}
@@ -10,18 +11,35 @@ use lib.Dec.{eqb, leb}
 use lib.ListN.{length, getD, take, set, replicate, length-append, length-take, length-map}
 use lib.Seq.{take-suc, take-all, take-append-seam, set-append-seam, append-snoc}
 use Rattle.laws.specs.Choice.{on-eq, off-eq, on-lt, off-lt, on-call, off-call}
+use Rattle.laws.specs.Sums.{sumOf, sum-append}
 use Rattle.fields.specs.Laws.{some-append}
 use Rattle.book.specs.declared.Entry.{Entry}
 use Rattle.book.specs.declared.Book.{Book}
-use Rattle.book.specs.Model.{Model, model, isForgotten, heldOn, holds, answerOf, after}
-use Rattle.book.specs.Kept.{pair, heldIn, modelOf, placesOf, bookOf, answered, takenOf}
+use Rattle.book.specs.Model.{Model, model, isForgotten, heldOn, holds, isTooLarge, answerOf, after}
+use Rattle.book.specs.Kept.{entryOf, heldIn, modelOf, placesOf, bookOf, answered, takenOf}
 
 -- what the inner functions promise: the book on a day, without what is forgotten by then; and with one entry more
 abbrev pub onDay : Book → ℕ → Book
 onDay b day = bookOf (model day (heldOn day (heldIn b)))
 
 abbrev pub withEntry : Book → Entry → Book
-withEntry b e = record { day = b .day; held = b .held + 1; places = set (b .places) (b .held) e }
+withEntry b e =
+    record {
+      day = b .day;
+      held = b .held + 1;
+      payments = (b .payments + e .payments) % 2 ^ 64;
+      euros = (b .euros + e .euros) % 2 ^ 64;
+      places = set (b .places) (b .held) e;
+    }
+
+-- the same with totals that were added up by calls
+abbrev withTotals : Book → Entry → ℕ → ℕ → Book
+withTotals b e payments euros =
+    record { day = b .day; held = b .held + 1; payments = payments; euros = euros; places = set (b .places) (b .held) e }
+
+pub totals-added : (b : Book) (e : Entry) {p q : ℕ} → p ≡ (b .payments + e .payments) % 2 ^ 64 → q ≡ (b .euros + e .euros) % 2 ^ 64
+    → withTotals b e p q ≡ withEntry b e
+totals-added b e p q i = withTotals b e (p i) (q i)
 
 -- a list has the length of what is made of it element by element
 pub unmapped : (B : Type 0) (f : Entry → B) (es : List Entry) (n : ℕ) → length (map f es) ≡ n → length es ≡ n
@@ -54,12 +72,24 @@ module _ (day : ℕ) (es : List Entry) (e : Entry) (few : length es < 200) where
 
   placed : set (placesOf es) (length es) e ≡ placesOf (es ++ (e ∷ []))
   placed =
-      ap (λ (n : ℕ). set (es ++ replicate n (pair 0 0)) (length es) e) free
-      ∙ set-append-seam es (pair 0 0) (replicate (200 - length (es ++ (e ∷ []))) (pair 0 0)) e
-      ∙ sym (append-snoc es e (replicate (200 - length (es ++ (e ∷ []))) (pair 0 0)))
+      ap (λ (n : ℕ). set (es ++ replicate n (entryOf 0 0 0 0)) (length es) e) free
+      ∙ set-append-seam es (entryOf 0 0 0 0) (replicate (200 - length (es ++ (e ∷ []))) (entryOf 0 0 0 0)) e
+      ∙ sym (append-snoc es e (replicate (200 - length (es ++ (e ∷ []))) (entryOf 0 0 0 0)))
+
+  added-up : (f : Entry → ℕ) → (sumOf f es % 2 ^ 64 + f e) % 2 ^ 64 ≡ sumOf f (es ++ (e ∷ [])) % 2 ^ 64
+  added-up f =
+      let more : sumOf f es + f e ≡ sumOf f (es ++ (e ∷ [])) = omega (arith, sum-append f es (e ∷ [])) in
+      mod-add-mod (sumOf f es) (2 ^ 64) (f e) ∙ ap (λ (n : ℕ). n % 2 ^ 64) more
 
   pub with-entry : withEntry (bookOf (model day es)) e ≡ bookOf (model day (es ++ (e ∷ [])))
-  with-entry i = record { day = day; held = one-more i; places = placed i }
+  with-entry i =
+      record {
+        day = day;
+        held = one-more i;
+        payments = added-up (λ (x : Entry). x .payments) i;
+        euros = added-up (λ (x : Entry). x .euros) i;
+        places = placed i;
+      }
 
 -- the same unless it is forgotten
 abbrev pub unlessForgotten : ℕ → Book → Entry → Book
@@ -109,7 +139,7 @@ filled i n es long e = go (leb n 200) refl
 
 -- what the book of a model holds
 pub held-is : (m : Model) → heldIn (bookOf m) ≡ m .held
-held-is m = take-append-seam (m .held) (replicate (200 - length (m .held)) (pair 0 0))
+held-is m = take-append-seam (m .held) (replicate (200 - length (m .held)) (entryOf 0 0 0 0))
 
 -- a take by what was found
 module _ (b : Book) (e : Entry) where
@@ -117,38 +147,44 @@ module _ (b : Book) (e : Entry) where
   unfolding takenOf
   by-answer h = ap (λ (a : ℕ). answered (cond (eqb a 0) (bookOf (after (modelOf b) e)) b) a) h
 
-  pub too-early : e .day < b .day → answered b 52 ≡ takenOf b e
+  pub too-large : {large : Bool} → large ≡ isTooLarge e → large ≡ true → answered b 53 ≡ takenOf b e
   unfolding answerOf
-  too-early h = by-answer (on-lt _ h refl)
+  too-large l t = by-answer (on-call _ l t refl)
 
-  -- kept is the book on that day, and found whether it holds the number
-  module _ (h : b .day ≤ e .day) {kept : Book} (k : kept ≡ onDay b (e .day)) {found : Bool} (f : found ≡ holds (e .number) (heldIn kept)) where
-    on-day : heldIn kept ≡ heldOn (e .day) (heldIn b)
-    on-day = ap heldIn k ∙ held-is (model (e .day) (heldOn (e .day) (heldIn b)))
-
-    found-there : found ≡ holds (e .number) (heldOn (e .day) (heldIn b))
-    found-there = f ∙ ap (holds (e .number)) on-day
-
-    pub is-held : found ≡ true → answered b 50 ≡ takenOf b e
+  module _ {large : Bool} (l : large ≡ isTooLarge e) (small : large ≡ false) where
+    pub too-early : e .day < b .day → answered b 52 ≡ takenOf b e
     unfolding answerOf
-    is-held t = by-answer (off-lt _ h (on-call _ found-there t refl))
+    too-early h = by-answer (off-call _ l small (on-lt _ h refl))
 
-    many : length (heldOn (e .day) (heldIn b)) ≡ kept .held
-    many = sym (ap (λ (x : Book). x .held) k)
+    -- kept is the book on that day, and found whether it holds the number
+    module _ (h : b .day ≤ e .day) {kept : Book} (k : kept ≡ onDay b (e .day)) {found : Bool} (f : found ≡ holds (e .number) (heldIn kept)) where
+      on-day : heldIn kept ≡ heldOn (e .day) (heldIn b)
+      on-day = ap heldIn k ∙ held-is (model (e .day) (heldOn (e .day) (heldIn b)))
 
-    pub is-full : found ≡ false → kept .held ≡ 200 → answered b 51 ≡ takenOf b e
-    unfolding answerOf
-    is-full n full = by-answer (off-lt _ h (off-call _ found-there n (on-eq _ (many ∙ full) refl)))
+      found-there : found ≡ holds (e .number) (heldOn (e .day) (heldIn b))
+      found-there = f ∙ ap (holds (e .number)) on-day
 
-    module _ (long : length (b .places) ≡ 200) (free : kept .held ≡ 200 → ⊥) where
-      pub has-room : kept .held < 200
-      has-room = omega (arith, free, many, held-few (e .day) (heldIn b), length-take (b .held) (b .places), long)
+      pub is-held : found ≡ true → answered b 50 ≡ takenOf b e
+      unfolding answerOf
+      is-held t = by-answer (off-call _ l small (off-lt _ h (on-call _ found-there t refl)))
 
-      pub is-taken : found ≡ false → {next : Book} → next ≡ withEntry kept e → answered next 0 ≡ takenOf b e
-      unfolding answerOf after
-      is-taken n w =
-          let few : length (heldOn (e .day) (heldIn b)) < 200 = omega (arith, has-room, many) in
-          let zero : 0 ≡ answerOf (modelOf b) e = off-lt _ h (off-call _ found-there n (off-eq _ (λ f. free (sym many ∙ f)) refl)) in
-          ap (λ (x : Book). answered x 0)
-          (w ∙ ap (λ (x : Book). withEntry x e) k ∙ with-entry (e .day) (heldOn (e .day) (heldIn b)) e few ∙ ap bookOf (on-eq _ (sym zero) refl))
-          ∙ by-answer zero
+      many : length (heldOn (e .day) (heldIn b)) ≡ kept .held
+      many = sym (ap (λ (x : Book). x .held) k)
+
+      pub is-full : found ≡ false → kept .held ≡ 200 → answered b 51 ≡ takenOf b e
+      unfolding answerOf
+      is-full n full = by-answer (off-call _ l small (off-lt _ h (off-call _ found-there n (on-eq _ (many ∙ full) refl))))
+
+      module _ (long : length (b .places) ≡ 200) (free : kept .held ≡ 200 → ⊥) where
+        pub has-room : kept .held < 200
+        has-room = omega (arith, free, many, held-few (e .day) (heldIn b), length-take (b .held) (b .places), long)
+
+        pub is-taken : found ≡ false → {next : Book} → next ≡ withEntry kept e → answered next 0 ≡ takenOf b e
+        unfolding answerOf after
+        is-taken n w =
+            let few : length (heldOn (e .day) (heldIn b)) < 200 = omega (arith, has-room, many) in
+            let room : length (heldOn (e .day) (heldIn b)) ≡ 200 → ⊥ = λ full. free (sym many ∙ full) in
+            let zero : 0 ≡ answerOf (modelOf b) e = off-call _ l small (off-lt _ h (off-call _ found-there n (off-eq _ room refl))) in
+            ap (λ (x : Book). answered x 0)
+            (w ∙ ap (λ (x : Book). withEntry x e) k ∙ with-entry (e .day) (heldOn (e .day) (heldIn b)) e few ∙ ap bookOf (on-eq _ (sym zero) refl))
+            ∙ by-answer zero

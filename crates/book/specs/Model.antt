@@ -1,10 +1,12 @@
 -- Document 02, A7 (RULES 9.11): the book of taken files "answers as a plain set of pairs of number and day would". An entry
--- is such a pair, and so is what a take asks for: to take this number on this day.
+-- is such a pair, and so is what a take asks for: to take this number on this day. By A8 "each entry now also holds its
+-- file's payments and whole euros", and so does a take.
 use Prim.Native.Nat.{ℕ, _-_}
-use mathlib.Core.Bool.{Bool, cond}
+use mathlib.Core.Bool.{Bool, _||_, cond}
 use mathlib.Core.List.{List, [], _∷_, _++_}
 use lib.Dec.{eqb, leb, ltb}
 use lib.ListN.{length}
+use Rattle.laws.specs.Sums.{sumOf}
 use Rattle.fields.specs.Lists.{some}
 use Rattle.book.specs.declared.Entry.{Entry}
 
@@ -20,6 +22,13 @@ heldOn day (e ∷ es) = cond (isForgotten day e) (heldOn day es) (e ∷ heldOn d
 -- a pair with this number is among them
 abbrev pub holds : ℕ → List Entry → Bool
 holds number es = some (λ (e : Entry). eqb (e .number) number) es
+
+-- A8: "the sums over the held pairs": the payments of all, and the whole euros
+abbrev pub paymentsOf : List Entry → ℕ
+paymentsOf es = sumOf (λ (e : Entry). e .payments) es
+
+abbrev pub eurosOf : List Entry → ℕ
+eurosOf es = sumOf (λ (e : Entry). e .euros) es
 
 -- the pairs, and the day of the last take that was not refused
 pub record Model : Type 0 where
@@ -37,12 +46,17 @@ empty = model 0 []
 abbrev pub stillHeld : Model → Entry → List Entry
 stillHeld m e = heldOn (e .day) (m .held)
 
--- "Refusals, in order: 52 for a day earlier than the book's, 50 for a held number after forgetting, 51 exactly when 200 are
--- then still held." 0 is no refusal
+-- A8: "A take passes payments up to 9,999 and euros up to 999,999,999,999,999."
+abbrev pub isTooLarge : Entry → Bool
+isTooLarge e = ltb 9999 (e .payments) || ltb 999999999999999 (e .euros)
+
+-- A8: "53 for larger figures, before 52." A7: "Refusals, in order: 52 for a day earlier than the book's, 50 for a held number
+-- after forgetting, 51 exactly when 200 are then still held." 0 is no refusal
 unfoldable pub answerOf : Model → Entry → ℕ
 answerOf m e =
-    cond (ltb (e .day) (m .day)) 52
-    (cond (holds (e .number) (stillHeld m e)) 50 (cond (eqb (length (stillHeld m e)) 200) 51 0))
+    cond (isTooLarge e) 53
+    (cond (ltb (e .day) (m .day)) 52
+    (cond (holds (e .number) (stillHeld m e)) 50 (cond (eqb (length (stillHeld m e)) 200) 51 0)))
 
 -- "A refused call leaves the book, its day included, unchanged."
 unfoldable pub after : Model → Entry → Model

@@ -3,17 +3,24 @@ ghost use mathlib.Core.Path.{_≡_};
 ghost use mathlib.Core.List.{[]};
 ghost use Prim.Native.Nat.{_<_, min};
 ghost use lib.ListN.{take};
-ghost use Rattle.book.specs.Model.{model, isForgotten, holds};
-ghost use Rattle.book.specs.Kept.{pair, bookOf, answered, NewBookAs, TakenAs};
+ghost use Rattle.book.specs.Model.{model, isForgotten, isTooLarge, holds};
+ghost use Rattle.book.specs.Kept.{entryOf, bookOf, answered, NewBookAs, TakenAs, TotalsAs};
 ghost use Rattle.book.specs.Laws.{onDay, withEntry};
+use std::num::wrapping_add_u64;
 
 const PLACES: usize = 200;
 
-// A file's number, and the business day on which it was taken.
+const MOST_PAYMENTS: u64 = 9999;
+
+const MOST_EUROS: u64 = 999999999999999;
+
+// A file's number, the business day on which it was taken, and the file's payments and whole euros.
 #[repr(C)]
 pub struct Entry {
     pub number: u64,
     pub day: u32,
+    pub payments: u64,
+    pub euros: u64,
 }
 
 #[repr(C)]
@@ -22,6 +29,9 @@ pub struct Book {
     pub day: u32,
     // How many numbers are held: the first so many places.
     pub held: usize,
+    // The totals over what is held.
+    pub payments: u64,
+    pub euros: u64,
     pub places: [Entry; PLACES],
 }
 
@@ -30,6 +40,20 @@ pub struct Book {
 pub struct Taken {
     pub book: Book,
     pub number: usize,
+}
+
+// What a book says of itself: how many files are held, and the totals over them.
+#[repr(C)]
+pub struct Totals {
+    pub files: usize,
+    pub payments: u64,
+    pub euros: u64,
+}
+
+fn is_too_large(entry: Entry) -> bool
+    ensures { λ r. ⌜ r ≡ isTooLarge entry ⌝ }
+{
+    (MOST_PAYMENTS < entry.payments) | (MOST_EUROS < entry.euros)
 }
 
 // The days are subtracted: a sum could exceed the last day.
@@ -54,10 +78,17 @@ impl Book {
     fn empty(day: u32) -> Self
         ensures { λ r. ⌜ r ≡ bookOf (model day []) ⌝ }
     {
-        let none = Entry { number: 0, day: 0 };
+        let none = Entry {
+            number: 0,
+            day: 0,
+            payments: 0,
+            euros: 0,
+        };
         Self {
             day,
             held: 0,
+            payments: 0,
+            euros: 0,
             places: [none; PLACES],
         }
     }
@@ -76,6 +107,8 @@ impl Book {
         let at = self.held;
         self.places[at] = entry;
         self.held = at + 1;
+        self.payments = wrapping_add_u64(self.payments, entry.payments);
+        self.euros = wrapping_add_u64(self.euros, entry.euros);
         self
     }
 
@@ -105,6 +138,8 @@ impl Book {
                 let at = kept.held;
                 kept.places[at] = entry;
                 kept.held = at + 1;
+                kept.payments = wrapping_add_u64(kept.payments, entry.payments);
+                kept.euros = wrapping_add_u64(kept.euros, entry.euros);
             }
             i += 1;
         }
@@ -126,9 +161,18 @@ impl Book {
         found
     }
 
-    pub fn take(self, number: u64, day: u32) -> Taken
-        ensures { λ r. ⌜ TakenAs self (pair number day) r ⌝ }
+    pub fn take(self, number: u64, day: u32, payments: u64, euros: u64) -> Taken
+        ensures { λ r. ⌜ TakenAs self (entryOf number day payments euros) r ⌝ }
     {
+        let entry = Entry {
+            number,
+            day,
+            payments,
+            euros,
+        };
+        if is_too_large(entry) {
+            return answer(self, 53);
+        }
         if day < self.day {
             return answer(self, 52);
         }
@@ -139,7 +183,17 @@ impl Book {
         if kept.held == PLACES {
             return answer(self, 51);
         }
-        let entry = Entry { number, day };
         answer(kept.with(entry), 0)
+    }
+
+    // As they are stored: nothing is added up.
+    pub fn totals(self) -> Totals
+        ensures { λ r. ⌜ TotalsAs self r ⌝ }
+    {
+        Totals {
+            files: self.held,
+            payments: self.payments,
+            euros: self.euros,
+        }
     }
 }

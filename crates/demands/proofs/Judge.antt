@@ -8,6 +8,7 @@ use native.Mathlib.Omega.{arith}
 use borrow.Author.Tests.{eqb-true, eqb-false}
 use lib.Dec.{eqb}
 use lib.ListN.{length}
+use Rattle.laws.specs.Sums.{sumOf}
 use Rattle.fields.specs.Lists.{isTaken}
 use Rattle.structure.specs.Slots.{slotAt}
 use Rattle.structure.specs.Walk.{structureOf}
@@ -15,7 +16,7 @@ use Rattle.structure.specs.Fits.{Fit}
 use Rattle.structure.specs.declared.Shape.{Shape}
 use Rattle.structure.specs.declared.Shape.the-variants.{Fits, Refused}
 use Rattle.judge.specs.Sums.{euros, cents, euroSum, centSum, fileNumber}
-use Rattle.judge.specs.Records.{fileOf, sumOf}
+use Rattle.judge.specs.Records.{fileOf}
 use Rattle.judge.specs.ByRecords.{sum-by-records, cents-by-records}
 use Rattle.judge.specs.Apart.{slotsFrom, slots-count, made}
 use Rattle.judge.specs.Content.{contentOf}

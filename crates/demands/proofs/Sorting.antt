@@ -11,6 +11,7 @@ use lib.ListN.{length, take, drop, length-append}
 use lib.Seq.{take-at}
 use Rattle.laws.specs.Choice.{on, on-eq, off-eq, either}
 use Rattle.laws.specs.Scan.{Means, means}
+use Rattle.laws.specs.Sums.{sumOf}
 use Rattle.charset.specs.Table.{isPage}
 use Rattle.records.specs.Places.{recordAt}
 use Rattle.structure.specs.Slots.{widthAt, slotAt}
@@ -21,7 +22,7 @@ use Rattle.structure.specs.declared.Shape.the-variants.{Fits, Refused}
 use Rattle.judge.specs.First.{breaks, firstRule}
 use Rattle.judge.specs.Content.{faultOf, ruleFrom, ruleEnd}
 use Rattle.judge.specs.Sums.{euros, euroSum}
-use Rattle.judge.specs.Records.{joined, fileOf, sumOf}
+use Rattle.judge.specs.Records.{joined, fileOf}
 use Rattle.judge.specs.Apart.{slotsFrom}
 use Rattle.judge.specs.Verdict.{verdictOf}
 use Rattle.forwarding.specs.Forwarded.{forwarded, notesOf}

@@ -7,10 +7,11 @@ use mathlib.Core.List.{List}
 use mathlib.Core.Logic.{_↔_}
 use mathlib.Core.Bool.{true, false}
 use lib.ListN.{length}
+use Rattle.laws.specs.Sums.{sumOf}
 use Rattle.fields.specs.Lists.{isTaken}
 use Rattle.structure.specs.Slots.{slotAt}
 use Rattle.judge.specs.Sums.{euros, cents, fileNumber}
-use Rattle.judge.specs.Records.{MadeOf, sumOf}
+use Rattle.judge.specs.Records.{MadeOf}
 use Rattle.judge.specs.Verdict.{verdictOf, JudgedAs}
 use Rattle.judge.specs.declared.Verdict.{Verdict}
 use Rattle.demands.specs.Page.{Page}

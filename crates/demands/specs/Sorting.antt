@@ -6,6 +6,7 @@ use mathlib.Core.Bool.{true}
 use mathlib.Core.List.{List}
 use mathlib.Core.Logic.{_⊎_, _↔_}
 use lib.ListN.{length, getD, take, drop}
+use Rattle.laws.specs.Sums.{sumOf}
 use Rattle.records.specs.declared.ZField.the-variants.{Z3, Z4}
 use Rattle.fields.specs.Number.{dec}
 use Rattle.rules.specs.Z.{inZ}
@@ -16,7 +17,7 @@ use Rattle.structure.specs.Slots.{slotAt}
 use Rattle.structure.specs.Walk.{structureOf}
 use Rattle.structure.specs.declared.Shape.the-variants.{Fits, Refused}
 use Rattle.judge.specs.Sums.{euros, euroSum}
-use Rattle.judge.specs.Records.{MadeOf, sumOf}
+use Rattle.judge.specs.Records.{MadeOf}
 use Rattle.forwarding.specs.Forwarded.{notesOf}
 use Rattle.forwarding.specs.Put.{put}
 use Rattle.forwarding.specs.RoundTrip.{Bytes}

@@ -5,9 +5,10 @@ use mathlib.Core.List.{List, [], _∷_, _++_, map, append-assoc}
 use native.Mathlib.Omega.{arith}
 use lib.ListN.{length, getD, take, drop}
 use lib.Seq.{take-append-seam, drop-append-add, take-take, take-at, drop-at}
+use Rattle.laws.specs.Sums.{sumOf}
 use Rattle.charset.specs.Table.{text}
 use Rattle.records.specs.Places.{part}
-use Rattle.judge.specs.Records.{joined, sumOf}
+use Rattle.judge.specs.Records.{joined}
 use Rattle.m8.specs.Record.{fields, m8Of, formats, codeOf}
 use Rattle.m8.specs.Writing.{fields-long, m8-long}
 use Rattle.m8.specs.Course.{code-long}

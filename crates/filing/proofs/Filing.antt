@@ -10,6 +10,7 @@ use lib.Dec.{eqb, ltb}
 use lib.ListN.{length, getD, take, drop}
 use lib.Seq.{drop-at, length-take-le}
 use Rattle.laws.specs.Choice.{on-eq, off-eq, on-lt, off-lt}
+use Rattle.laws.specs.Sums.{sumOf}
 use Rattle.charset.specs.Table.{isPage}
 use Rattle.records.specs.Places.{_to_, part, tPlace}
 use Rattle.records.specs.Inside.{held, t-inside}
@@ -19,7 +20,7 @@ use Rattle.payments.specs.Rules.{keyOf, inT}
 use Rattle.structure.specs.Slots.{slotAt}
 use Rattle.structure.specs.Walk.{structureOf}
 use Rattle.judge.specs.Sums.{euros, cents, dec-append}
-use Rattle.judge.specs.Records.{joined, sumOf}
+use Rattle.judge.specs.Records.{joined}
 use Rattle.forwarding.specs.Forwarded.{notesOf}
 use Rattle.forwarding.specs.Put.{put}
 use Rattle.sorting.specs.Kept.{tRecords, ruleIn, returnedIn, namedIn, keptFile}

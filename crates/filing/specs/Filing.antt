@@ -7,6 +7,7 @@ use mathlib.Core.List.{List, [], _∷_, _++_}
 use mathlib.Core.Logic.{_⊎_}
 use lib.ListN.{length, getD, take, drop}
 use Rattle.laws.specs.Ascii.{ascii, zeros, spaces}
+use Rattle.laws.specs.Sums.{sumOf}
 use Rattle.charset.specs.Table.{unchanged, text}
 use Rattle.records.specs.Places.{_to_, part}
 use Rattle.records.specs.declared.QField.the-variants.{Q6, Q7}
@@ -18,7 +19,6 @@ use Rattle.rules.specs.Q.{inQ}
 use Rattle.payments.specs.Rules.{inT}
 use Rattle.structure.specs.Slots.{slotAt}
 use Rattle.judge.specs.Sums.{cents}
-use Rattle.judge.specs.Records.{sumOf}
 use Rattle.sorting.specs.Kept.{returnedIn, namedIn}
 use Rattle.sorting.specs.declared.Sorted.{Sorted}
 use Rattle.prepare.specs.Default.{DefaultAs}

@@ -1,6 +1,7 @@
 // The calls for hosts in C. Lent slices pass as pointer and count.
 use book::Book;
 use book::Taken;
+use book::Totals;
 use judge::Verdict;
 use m8::Filed;
 use prepare::Prepared;
@@ -14,7 +15,7 @@ ghost use Rattle.prepare.specs.Prepared.{PreparedAs};
 ghost use Rattle.prepare.specs.Default.{DefaultAs};
 ghost use Rattle.restore.specs.Restored.{RestoredAs};
 ghost use Rattle.m8.specs.Filed.{FiledAs};
-ghost use Rattle.book.specs.Kept.{pair, NewBookAs, TakenAs};
+ghost use Rattle.book.specs.Kept.{entryOf, NewBookAs, TakenAs, TotalsAs};
 ghost use Rattle.host.specs.Answers.{CodedAs, PlacedAs};
 
 // The judge of document 01 for payroll hosts: page 0, no taken numbers, record × 100 + number.
@@ -152,8 +153,21 @@ pub extern "C" fn desk_book_new() -> Book
 }
 
 #[no_mangle]
-pub extern "C" fn desk_book_take(book: Book, number: u64, day: u32) -> Taken
-    ensures { λ r. ⌜ TakenAs book (pair number day) r ⌝ }
+pub extern "C" fn desk_book_take(
+    book: Book,
+    number: u64,
+    day: u32,
+    payments: u64,
+    euros: u64,
+) -> Taken
+    ensures { λ r. ⌜ TakenAs book (entryOf number day payments euros) r ⌝ }
 {
-    book.take(number, day)
+    book.take(number, day, payments, euros)
+}
+
+#[no_mangle]
+pub extern "C" fn desk_book_totals(book: Book) -> Totals
+    ensures { λ r. ⌜ TotalsAs book r ⌝ }
+{
+    book.totals()
 }

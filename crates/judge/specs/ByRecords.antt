@@ -12,6 +12,7 @@ use borrow.Author.Tests.{eqb-true, eqb-false, leb-true, leb-false, ne-eqb, le-le
 use lib.Dec.{eqb, leb}
 use lib.ListN.{length, take, drop, getD, length-append}
 use lib.Seq.{take-at, drop-at, take-all, drop-drop}
+use Rattle.laws.specs.Sums.{sumOf}
 use Rattle.rules.specs.Faults.{qFault, zFault}
 use Rattle.payments.specs.Rules.{keyOf}
 use Rattle.payments.specs.Faults.{tFault}
@@ -24,7 +25,7 @@ use Rattle.structure.specs.declared.Shape.the-variants.{Fits}
 use Rattle.judge.specs.Content.{faultOf, ruleFrom, ruleEnd, contentOf, rule-real}
 use Rattle.judge.specs.Meaning.{none-broken, complete}
 use Rattle.judge.specs.Sums.{total, euros, cents, euroSum, centSum}
-use Rattle.judge.specs.Records.{joined, fileOf, AllLong, Lengths, sumOf}
+use Rattle.judge.specs.Records.{joined, fileOf, AllLong, Lengths}
 use Rattle.judge.specs.Verdict.{refused, unless, verdictOf}
 use Rattle.judge.specs.declared.Verdict.{Verdict}
 use Rattle.judge.specs.declared.Breach.{Breach}

@@ -1,5 +1,5 @@
 -- Document 01, "Records" (RULES 2.1): "A file is one Q record, one or more T records, one Z record", and "Q 256, T 768, Z
--- 256". A file by its records: q, the T records ts and z, joined; and a sum over its T records.
+-- 256". A file by its records: q, the T records ts and z, joined.
 use Prim.Native.Nat.{ℕ, _+_}
 use mathlib.Core.Path.{_≡_}
 use mathlib.Core.List.{List, [], _∷_, _++_}
@@ -24,8 +24,3 @@ pub record Lengths (q : List ℕ) (ts : List (List ℕ)) (z : List ℕ) : Type 0
 -- q, ts and z are the records of the file
 abbrev pub MadeOf : List ℕ → List ℕ → List (List ℕ) → List ℕ → Type 0
 MadeOf file q ts z = Lengths q ts z × (file ≡ fileOf q ts z)
-
--- the sum of f over the T records
-abbrev pub sumOf : (List ℕ → ℕ) → List (List ℕ) → ℕ
-sumOf f [] = 0
-sumOf f (t ∷ ts) = f t + sumOf f ts

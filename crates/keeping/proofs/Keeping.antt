@@ -14,7 +14,7 @@ use Rattle.fields.specs.Laws.{some-append}
 use Rattle.book.specs.declared.Entry.{Entry}
 use Rattle.book.specs.declared.Book.{Book}
 use Rattle.book.specs.declared.Taken.{Taken}
-use Rattle.book.specs.Model.{Model, model, empty, isForgotten, heldOn, holds, answerOf, after}
+use Rattle.book.specs.Model.{Model, model, empty, isForgotten, heldOn, holds, isTooLarge, answerOf, after}
 use Rattle.book.specs.Kept.{heldIn, modelOf, bookOf, newOf, takenOf}
 use Rattle.book.specs.Laws.{held-append, held-is}
 use Rattle.keeping.specs.Keeping.{TakenAll, Takes, answersBy, AnswersAsModel, added, AnswersAsPlainSet, HeldFiveDays, RefusedKeepsBook, TakeNumbers, NewBookSettled, TakeSettled}
@@ -26,34 +26,42 @@ same-model m i = model (m .day) (held-is m i)
 -- what the answers 50 and 0 mean
 module _ (m : Model) (e : Entry) where
   pub record Accepted : Type 0 where
+    pub small : isTooLarge e ≡ false
     pub in-time : m .day ≤ e .day
     pub free : holds (e .number) (heldOn (e .day) (m .held)) ≡ false
     pub room : length (heldOn (e .day) (m .held)) ≡ 200 → ⊥
 
   abbrev Means : ℕ → Type 0
   Means n =
-      (n ≡ 52) ⊎ (((n ≡ 50) × (holds (e .number) (heldOn (e .day) (m .held)) ≡ true)) ⊎ ((n ≡ 51) ⊎ ((n ≡ 0) × Accepted)))
+      (n ≡ 53)
+      ⊎ ((n ≡ 52) ⊎ (((n ≡ 50) × (holds (e .number) (heldOn (e .day) (m .held)) ≡ true)) ⊎ ((n ≡ 51) ⊎ ((n ≡ 0) × Accepted))))
 
   means : Means (answerOf m e)
   unfolding answerOf
-  means = go (ltb (e .day) (m .day)) (holds (e .number) (heldOn (e .day) (m .held))) (eqb (length (heldOn (e .day) (m .held))) 200) refl refl refl
+  means =
+      go (isTooLarge e) (ltb (e .day) (m .day)) (holds (e .number) (heldOn (e .day) (m .held))) (eqb (length (heldOn (e .day) (m .held))) 200) refl refl refl refl
     where
-      go : (x y z : Bool) → ltb (e .day) (m .day) ≡ x → holds (e .number) (heldOn (e .day) (m .held)) ≡ y → eqb (length (heldOn (e .day) (m .held))) 200 ≡ z
-          → Means (cond x 52 (cond y 50 (cond z 51 0)))
-      go true y z p q r = inl refl
-      go false true z p q r = inr (inl (refl, q))
-      go false false true p q r = inr (inr (inl refl))
-      go false false false p q r =
-          inr (inr (inr (refl, record { in-time = ltb-false (e .day) (m .day) p; free = q; room = eqb-false (length (heldOn (e .day) (m .held))) 200 r })))
+      go : (w x y z : Bool) → isTooLarge e ≡ w → ltb (e .day) (m .day) ≡ x → holds (e .number) (heldOn (e .day) (m .held)) ≡ y
+          → eqb (length (heldOn (e .day) (m .held))) 200 ≡ z → Means (cond w 53 (cond x 52 (cond y 50 (cond z 51 0))))
+      go true x y z o p q r = inl refl
+      go false true y z o p q r = inr (inl refl)
+      go false false true z o p q r = inr (inr (inl (refl, q)))
+      go false false false true o p q r = inr (inr (inr (inl refl)))
+      go false false false false o p q r =
+          inr (inr (inr (inr (
+            refl,
+            record { small = o; in-time = ltb-false (e .day) (m .day) p; free = q; room = eqb-false (length (heldOn (e .day) (m .held))) 200 r },
+          ))))
 
   pub accepted : answerOf m e ≡ 0 → Accepted
   accepted z = go means
     where
       go : Means (answerOf m e) → Accepted
       go (inl p) = absurd (omega (arith, p, z))
-      go (inr (inl p)) = absurd (omega (arith, p .0, z))
-      go (inr (inr (inl p))) = absurd (omega (arith, p, z))
-      go (inr (inr (inr p))) = p .1
+      go (inr (inl p)) = absurd (omega (arith, p, z))
+      go (inr (inr (inl p))) = absurd (omega (arith, p .0, z))
+      go (inr (inr (inr (inl p)))) = absurd (omega (arith, p, z))
+      go (inr (inr (inr (inr p)))) = p .1
 
 -- a take of the book of a model
 module _ (m : Model) (e : Entry) where
@@ -104,7 +112,7 @@ pub record Alike (m all : Model) : Type 0 where
 module _ (m all : Model) (alike : Alike m all) (e : Entry) where
   same-answer : answerOf m e ≡ answerOf all e
   unfolding answerOf
-  same-answer = go (ltb (e .day) (m .day)) refl
+  same-answer = ap (cond (isTooLarge e) 53) (go (ltb (e .day) (m .day)) refl)
     where
       inner : List Entry → ℕ
       inner held = cond (holds (e .number) held) 50 (cond (eqb (length held) 200) 51 0)
@@ -114,7 +122,7 @@ module _ (m all : Model) (alike : Alike m all) (e : Entry) where
       go true h = on _ (ap (ltb (e .day)) (sym (alike .days)) ∙ h) refl
       go false h = off _ (ap (ltb (e .day)) (sym (alike .days)) ∙ h) (ap inner (alike .later (e .day) (ltb-false (e .day) (m .day) h)))
 
-  still-alike : Alike (after m e) (added all e)
+  pub still-alike : Alike (after m e) (added all e)
   still-alike = go (eqb (answerOf m e) 0) refl
     where
       one : List Entry
@@ -155,13 +163,14 @@ unfolding takenOf
 take-numbers b e taken took = subst Numbers (sym (ap (λ (x : Taken). x .number) took)) (go (means (modelOf b) e))
   where
     Numbers : ℕ → Type 0
-    Numbers n = (n ≡ 0) ⊎ ((n ≡ 50) ⊎ ((n ≡ 51) ⊎ (n ≡ 52)))
+    Numbers n = (n ≡ 0) ⊎ ((n ≡ 50) ⊎ ((n ≡ 51) ⊎ ((n ≡ 52) ⊎ (n ≡ 53))))
 
     go : Means (modelOf b) e (answerOf (modelOf b) e) → Numbers (answerOf (modelOf b) e)
-    go (inl p) = inr (inr (inr p))
-    go (inr (inl p)) = inr (inl (p .0))
-    go (inr (inr (inl p))) = inr (inr (inl p))
-    go (inr (inr (inr p))) = inl (p .0)
+    go (inl p) = inr (inr (inr (inr p)))
+    go (inr (inl p)) = inr (inr (inr (inl p)))
+    go (inr (inr (inl p))) = inr (inl (p .0))
+    go (inr (inr (inr (inl p)))) = inr (inr (inl p))
+    go (inr (inr (inr (inr p)))) = inl (p .0)
 
 pub new-book-settled : NewBookSettled
 new-book-settled = record { some = (newOf, refl); coincide = λ a b p q. p ∙ sym q }
@@ -188,11 +197,11 @@ module _ (held : List Entry) (e later : Entry) (same : later .number ≡ e .numb
   abbrev again : ℕ
   again = answerOf (model (e .day) (held ++ (e ∷ []))) later
 
-  still-held : later .day < e .day + 5 → again ≡ 50
+  still-held : isTooLarge later ≡ false → later .day < e .day + 5 → again ≡ 50
   unfolding answerOf
-  still-held h =
+  still-held small h =
       let kept : isForgotten (later .day) e ≡ false = lt-leb 5 (later .day - e .day) (omega (arith, h, l)) in
-      sym (off-lt _ l (on _ (found false kept) refl))
+      sym (off _ small (off-lt _ l (on _ (found false kept) refl)))
 
   held-so-long : again ≡ 50 → later .day < e .day + 5
   held-so-long h = go (isForgotten (later .day) e) refl (means (model (e .day) (held ++ (e ∷ []))) later)
@@ -200,13 +209,14 @@ module _ (held : List Entry) (e later : Entry) (same : later .number ≡ e .numb
       go : (b : Bool) → isForgotten (later .day) e ≡ b → Means (model (e .day) (held ++ (e ∷ []))) later again → later .day < e .day + 5
       go false p w = omega (arith, leb-false 5 (later .day - e .day) p)
       go true p (inl q) = absurd (omega (arith, h, q))
-      go true p (inr (inl q)) = absurd (false≢true (sym (found true p) ∙ q .1))
-      go true p (inr (inr (inl q))) = absurd (omega (arith, h, q))
-      go true p (inr (inr (inr q))) = absurd (omega (arith, h, q .0))
+      go true p (inr (inl q)) = absurd (omega (arith, h, q))
+      go true p (inr (inr (inl q))) = absurd (false≢true (sym (found true p) ∙ q .1))
+      go true p (inr (inr (inr (inl q)))) = absurd (omega (arith, h, q))
+      go true p (inr (inr (inr (inr q)))) = absurd (omega (arith, h, q .0))
 
 pub held-five-days : HeldFiveDays
 unfolding takenOf
-held-five-days b e later taken next took z same l took-next =
+held-five-days b e later taken next took z same l small took-next =
     let held = heldOn (e .day) (heldIn b) in
     let zero : answerOf (modelOf b) e ≡ 0 = sym (ap (λ (x : Taken). x .number) took) ∙ z in
     let free = accepted (modelOf b) e zero .free in
@@ -214,4 +224,4 @@ held-five-days b e later taken next took z same l took-next =
     ap (λ (x : Taken). x .book) took ∙ sym (on-eq _ zero refl) ∙ ap bookOf (taken-is (modelOf b) e (eq-eqb (answerOf (modelOf b) e) 0 zero)) in
     let number-is : next .number ≡ again held e later same free l =
     ap (λ (x : Taken). x .number) took-next ∙ ap (λ (x : Book). takenOf x later .number) book ∙ took-number (model (e .day) (held ++ (e ∷ []))) later in
-    (λ h. held-so-long held e later same free l (sym number-is ∙ h), λ h. number-is ∙ still-held held e later same free l h)
+    (λ h. held-so-long held e later same free l (sym number-is ∙ h), λ h. number-is ∙ still-held held e later same free l small h)

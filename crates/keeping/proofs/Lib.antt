@@ -1,3 +1,4 @@
 pub mod Forgetting
 pub mod Keeping
 pub mod Rebuilding
+pub mod Totals

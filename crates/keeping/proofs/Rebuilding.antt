@@ -12,7 +12,7 @@ use Rattle.laws.specs.Choice.{off, on-eq, off-eq, off-lt}
 use Rattle.laws.specs.Steps.{fold}
 use Rattle.book.specs.declared.Entry.{Entry}
 use Rattle.book.specs.declared.Book.{Book}
-use Rattle.book.specs.Model.{Model, model, empty, isForgotten, heldOn, holds, answerOf, after}
+use Rattle.book.specs.Model.{Model, model, empty, isForgotten, heldOn, holds, isTooLarge, answerOf, after}
 use Rattle.book.specs.Kept.{heldIn, bookOf}
 use Rattle.book.specs.Laws.{held-append, held-few, held-is}
 use Rattle.keeping.specs.Keeping.{Takes, answersBy, TakesRebuild}
@@ -21,16 +21,17 @@ use Rattle.keeping.proofs.Keeping.{accepted, refused-stays, taken-is, a
 
 -- a take that is accepted, and by which nothing is forgotten
 pub record Joins (m : Model) (e : Entry) : Type 0 where
+  pub small : isTooLarge e ≡ false
   pub in-time : m .day ≤ e .day
   pub free : holds (e .number) (m .held) ≡ false
   pub room : length (m .held) < 200
   pub stay : heldOn (e .day) (m .held) ≡ m .held
 
-abbrev with : Model → Entry → Model
+abbrev pub with : Model → Entry → Model
 with m e = model (e .day) (m .held ++ (e ∷ []))
 
 -- such takes one after the other
-abbrev Runs : Model → List Entry → Type 0
+abbrev pub Runs : Model → List Entry → Type 0
 Runs m [] = Unit {0}
 Runs m (e ∷ es) = Joins m e × Runs (with m e) es
 
@@ -44,7 +45,7 @@ module _ (m : Model) (e : Entry) (j : Joins m e) where
   unfolding answerOf
   is-zero =
       let room : length (heldOn (e .day) (m .held)) ≡ 200 → ⊥ = λ full. omega (arith, j .room, full, ap length (j .stay)) in
-      sym (off-lt _ (j .in-time) (off _ (ap (holds (e .number)) (j .stay) ∙ j .free) (off-eq _ room refl)))
+      sym (off _ (j .small) (off-lt _ (j .in-time) (off _ (ap (holds (e .number)) (j .stay) ∙ j .free) (off-eq _ room refl))))
 
   is-with : after m e ≡ with m e
   unfolding after
@@ -60,7 +61,7 @@ runs-answer m (e ∷ es) r =
       ap (λ (x : Model). fold after x es) on ∙ then .1 ∙ ap (model (lastDay (e .day) es)) (append-snoc (m .held) e es),
     )
 
-runs-few : (m : Model) (es : List Entry) → Runs m es → length (m .held) ≤ 200 → length (m .held ++ es) ≤ 200
+pub runs-few : (m : Model) (es : List Entry) → Runs m es → length (m .held) ≤ 200 → length (m .held ++ es) ≤ 200
 runs-few m [] r h = omega (arith, h, ap length (append-nil (m .held)))
 runs-few m (e ∷ es) r h =
     let more = runs-few (with m e) es (r .1) (omega (arith, r .0 .room, length-append (m .held) (e ∷ []))) in
@@ -92,6 +93,7 @@ module _ (day : ℕ) where
           subst (λ (xs : List Entry). Runs (model low xs) (heldOn day es)) (forgets hs e true h ∙ append-nil (heldOn day hs)) (then low (omega (arith, l, late)) (r .1))
       go false h then late = (
         record {
+          small = r .0 .small;
           in-time = omega (arith, l, late);
           free = holds-not (e .number) day hs (r .0 .free);
           room = omega (arith, held-few day hs, r .0 .room);
@@ -122,6 +124,7 @@ module _ (m : Model) (e : Entry) (r : Reached m) where
   joins z =
       let a = accepted m e z in
       record {
+        small = a .small;
         in-time = omega (arith, a .in-time, r .last, last-held (e .day) [] (m .held) 0 0 (omega arith) (r .runs));
         free = a .free;
         room = omega (arith, a .room, held-few (e .day) (m .held), runs-few empty (m .held) (r .runs) (omega arith));
@@ -140,7 +143,7 @@ module _ (m : Model) (e : Entry) (r : Reached m) where
             last = last-more 0 kept e;
           }
 
-reached-all : (m : Model) (es : List Entry) → Reached m → Reached (fold after m es)
+pub reached-all : (m : Model) (es : List Entry) → Reached m → Reached (fold after m es)
 reached-all m [] r = r
 reached-all m (e ∷ es) r = reached-all (after m e) es (reaches m e r)
 

@@ -2,7 +2,7 @@
 -- pairs in book/Model; that a book of 200 places answers so, whatever the takes, is said here.
 use Prim.Native.Nat.{ℕ, _+_, _≤_, _<_}
 use mathlib.Core.Path.{_≡_}
-use mathlib.Core.Bool.{cond}
+use mathlib.Core.Bool.{false, cond}
 use mathlib.Core.List.{List, [], _∷_, _++_}
 use mathlib.Core.Logic.{_⊎_, _↔_}
 use lib.Dec.{eqb}
@@ -11,7 +11,7 @@ use Rattle.laws.specs.Steps.{fold}
 use Rattle.book.specs.declared.Entry.{Entry}
 use Rattle.book.specs.declared.Book.{Book}
 use Rattle.book.specs.declared.Taken.{Taken}
-use Rattle.book.specs.Model.{Model, model, empty, answerOf, after}
+use Rattle.book.specs.Model.{Model, model, empty, isTooLarge, answerOf, after}
 use Rattle.book.specs.Kept.{heldIn, modelOf, NewBookAs, TakenAs}
 use Rattle.demands.specs.Settled.{Settled}
 
@@ -47,12 +47,13 @@ abbrev pub AnswersAsPlainSet : Type 0
 AnswersAsPlainSet = (es : List Entry) (answers : List ℕ) (last : Book) → Takes es answers last → answers ≡ answersBy added empty es
 
 -- "a number is taken on a business day [..] and forgotten once the day is five or more later": whatever book was handed in,
--- where the next take is of the same number, on that day or later, it answers 50 up to the fourth day after, and from the
--- fifth on no more
+-- where the next take is of the same number, on that day or later, and passes no larger figures, it answers 50 up to the
+-- fourth day after, and from the fifth on no more
 abbrev pub HeldFiveDays : Type 0
 HeldFiveDays =
     (b : Book) (e later : Entry) (taken again : Taken) → TakenAs b e taken → taken .number ≡ 0 → later .number ≡ e .number
-    → e .day ≤ later .day → TakenAs (taken .book) later again → (again .number ≡ 50) ↔ (later .day < e .day + 5)
+    → e .day ≤ later .day → isTooLarge later ≡ false → TakenAs (taken .book) later again
+    → (again .number ≡ 50) ↔ (later .day < e .day + 5)
 
 -- "A refused call leaves the book, its day included, unchanged": whatever book is handed in
 abbrev pub RefusedKeepsBook : Type 0
@@ -62,7 +63,7 @@ RefusedKeepsBook = (b : Book) (e : Entry) (taken : Taken) → TakenAs b e taken 
 abbrev pub TakeNumbers : Type 0
 TakeNumbers =
     (b : Book) (e : Entry) (taken : Taken) → TakenAs b e taken
-    → (taken .number ≡ 0) ⊎ ((taken .number ≡ 50) ⊎ ((taken .number ≡ 51) ⊎ (taken .number ≡ 52)))
+    → (taken .number ≡ 0) ⊎ ((taken .number ≡ 50) ⊎ ((taken .number ≡ 51) ⊎ ((taken .number ≡ 52) ⊎ (taken .number ≡ 53))))
 
 -- what takes have left, takes of the held pairs alone leave too, one after the other from a new book; and none of these is
 -- refused. So no number is held twice, nor are more than 200; and a book may be kept as the list of its pairs

@@ -2,4 +2,5 @@ pub mod Ascii
 pub mod Choice
 pub mod Scan
 pub mod Steps
+pub mod Sums
 pub mod Values

@@ -5,6 +5,7 @@ use mathlib.Core.List.{List, _++_, append-assoc}
 use native.Mathlib.Omega.{arith}
 use lib.ListN.{length, drop, length-append, length-drop}
 use lib.Seq.{take-at, drop-at}
+use Rattle.laws.specs.Sums.{sumOf}
 use Rattle.charset.specs.Table.{rep}
 use Rattle.structure.specs.Slots.{slotAt}
 use Rattle.structure.specs.Walk.{structureOf}
@@ -19,7 +20,7 @@ use Rattle.forwarding.specs.Sent.{sent-all}
 use Rattle.forwarding.specs.Sized.{zAt, Sized}
 use Rattle.forwarding.specs.Noted.{Noted}
 use Rattle.judge.specs.Sums.{euros}
-use Rattle.judge.specs.Records.{joined, fileOf, Lengths, sumOf}
+use Rattle.judge.specs.Records.{joined, fileOf, Lengths}
 use Rattle.place.specs.Placing.{backAs, q-same, after-t, same-t}
 use Rattle.note.specs.Noting.{q-room, t-room, note-all}
 use Rattle.sorting.specs.Kept.{freshZ, keptIn, namedIn, keptFile}

@@ -9,6 +9,7 @@ use borrow.Author.Tests.{eqb-true, eqb-false}
 use lib.Dec.{eqb}
 use lib.ListN.{length}
 use Rattle.laws.specs.Choice.{on-eq, off-eq, on-not, off-not}
+use Rattle.laws.specs.Sums.{sumOf}
 use Rattle.charset.specs.Table.{isPage}
 use Rattle.payments.specs.Rules.{keyOf}
 use Rattle.structure.specs.Slots.{slotAt}
@@ -20,7 +21,6 @@ use Rattle.judge.specs.Content.{faultOf, ruleFrom, ruleEnd, contentOf, rule-rea
 use Rattle.judge.specs.Meaning.{none-broken}
 use Rattle.judge.specs.Run.{runFault, Lies, firstIn, file-lies, fault-in-file}
 use Rattle.judge.specs.Sums.{euros, euroSum}
-use Rattle.judge.specs.Records.{sumOf}
 use Rattle.judge.specs.declared.Breach.{Breach}
 use Rattle.forwarding.specs.Forwarded.{notesOf}
 use Rattle.sorting.specs.Kept.{tRecords, ruleIn, keptIn, returnedIn, keptFile}

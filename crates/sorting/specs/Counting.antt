@@ -9,6 +9,7 @@ use lib.Dec.{eqb}
 use lib.ListN.{length, length-append}
 use lib.Seq.{take-at}
 use Rattle.laws.specs.Choice.{on-eq, off-eq}
+use Rattle.laws.specs.Sums.{sumOf, sum-append}
 use Rattle.forwarding.specs.Text.{qTexts, tTexts}
 use Rattle.forwarding.specs.Forwarded.{notesOf}
 use Rattle.forwarding.specs.Between.{between}
@@ -16,13 +17,13 @@ use Rattle.forwarding.specs.Fields.{fieldChanges}
 use Rattle.forwarding.specs.Sized.{zAt}
 use Rattle.count.specs.Counting.{Counted, count-first, count-next, count-few, count-all}
 use Rattle.judge.specs.Sums.{euros, euros-lt}
-use Rattle.judge.specs.Records.{joined, fileOf, Lengths, sumOf}
+use Rattle.judge.specs.Records.{joined, fileOf, Lengths}
 use Rattle.judge.specs.Apart.{slotsFrom, slots-count}
 use Rattle.structure.specs.Slots.{slotAt}
 use Rattle.structure.specs.Walk.{structureOf}
 use Rattle.structure.specs.declared.Shape.the-variants.{Fits}
 use Rattle.sorting.specs.Kept.{kept, tRecords, ruleIn, keptIn, keptFile}
-use Rattle.sorting.specs.Lists.{counts-add, sum-append}
+use Rattle.sorting.specs.Lists.{counts-add}
 use Rattle.sorting.specs.Course.{placeOf, kept-more, kept-no-more, records-sized, z-at, kept-below, kept-here}
 use Rattle.sorting.specs.Frame.{fit, records-are, behind, records-split, records-more, zOf, kept-lengths, kept-few}
 use Rattle.sorting.specs.Sorted.{shares, sortedAs}

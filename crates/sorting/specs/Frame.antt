@@ -4,6 +4,7 @@ use mathlib.Core.Path.{_≡_, sym, ap, ap₂, subst, _∙_}
 use mathlib.Core.List.{List, [], _∷_, _++_}
 use native.Mathlib.Omega.{arith}
 use lib.ListN.{length}
+use Rattle.laws.specs.Sums.{sumOf}
 use Rattle.records.specs.Places.{recordAt}
 use Rattle.structure.specs.Slots.{slotAt, q-long, t-long, z-long, place-in}
 use Rattle.structure.specs.Walk.{structureOf}
@@ -11,7 +12,7 @@ use Rattle.structure.specs.Fits.{Fit, fits}
 use Rattle.structure.specs.declared.Shape.{Shape}
 use Rattle.structure.specs.declared.Shape.the-variants.{Fits}
 use Rattle.judge.specs.Sums.{euros}
-use Rattle.judge.specs.Records.{fileOf, AllLong, Lengths, sumOf}
+use Rattle.judge.specs.Records.{fileOf, AllLong, Lengths}
 use Rattle.judge.specs.Apart.{slotsFrom, slots-count, made}
 use Rattle.forwarding.specs.Sized.{Sized}
 use Rattle.sorting.specs.Kept.{freshZ, recordsBy, tRecords, ruleIn, keptIn, keptFile}

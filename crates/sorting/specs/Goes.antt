@@ -8,6 +8,7 @@ use native.Mathlib.Omega.{arith}
 use borrow.Author.Tests.{eqb-true, eqb-false, ne-eqb, lt-leb}
 use lib.Dec.{eqb, leb}
 use lib.ListN.{length, getD}
+use Rattle.laws.specs.Sums.{sumOf}
 use Rattle.charset.specs.Table.{isPage}
 use Rattle.rules.specs.Faults.{qFault, zFault}
 use Rattle.payments.specs.Rules.{keyOf}
@@ -20,7 +21,6 @@ use Rattle.judge.specs.Content.{faultOf, ruleFrom, ruleEnd, rule-real}
 use Rattle.judge.specs.Meaning.{rules-hold}
 use Rattle.judge.specs.ByKind.{of-q, of-z}
 use Rattle.judge.specs.Sums.{euros, euroSum}
-use Rattle.judge.specs.Records.{sumOf}
 use Rattle.judge.specs.ByRecords.{structure-by-records, sound-by-records}
 use Rattle.judge.specs.Verdict.{verdictOf}
 use Rattle.sorting.specs.Kept.{firstOf, kept, tRecords, ruleIn, keptIn, returnedIn, keptBy, keptFile}

@@ -8,6 +8,7 @@ use mathlib.Core.List.{List, [], _∷_, _++_}
 use lib.Dec.{eqb}
 use lib.ListN.{length}
 use Rattle.laws.specs.Scan.{first}
+use Rattle.laws.specs.Sums.{sumOf}
 use Rattle.records.specs.Places.{zPlace}
 use Rattle.records.specs.declared.ZField.the-variants.{Z3, Z4}
 use Rattle.payments.specs.Rules.{keyOf}
@@ -17,7 +18,7 @@ use Rattle.structure.specs.Walk.{structureOf}
 use Rattle.structure.specs.declared.Shape.{Shape}
 use Rattle.structure.specs.declared.Shape.the-variants.{Fits, Refused}
 use Rattle.judge.specs.Sums.{euros}
-use Rattle.judge.specs.Records.{fileOf, sumOf}
+use Rattle.judge.specs.Records.{fileOf}
 use Rattle.judge.specs.Apart.{slotsFrom}
 use Rattle.forwarding.specs.Put.{put}
 

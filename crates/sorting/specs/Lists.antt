@@ -8,7 +8,8 @@ use native.Mathlib.Omega.{arith}
 use borrow.Author.Tests.{eqb-true, eq-eqb, ne-eqb}
 use lib.Dec.{eqb}
 use lib.ListN.{length, getD}
-use Rattle.judge.specs.Records.{AllLong, sumOf}
+use Rattle.laws.specs.Sums.{sumOf}
+use Rattle.judge.specs.Records.{AllLong}
 use Rattle.sorting.specs.Kept.{kept, returned, named}
 
 module _ (rule : List ℕ → ℕ) where
@@ -114,7 +115,3 @@ module _ (rule : List ℕ → ℕ) where
           ≡ cond x (named rule (suc k) ts) ((k * 100 + rule t) ∷ named rule (suc k) ts) ++ named rule (k + suc (length ts)) us
       go true = refl
       go false = refl
-
-pub sum-append : (f : List ℕ → ℕ) (ts us : List (List ℕ)) → sumOf f (ts ++ us) ≡ sumOf f ts + sumOf f us
-sum-append f [] us = omega arith
-sum-append f (t ∷ ts) us = omega (arith, sum-append f ts us)

@@ -7,6 +7,7 @@ use mathlib.Core.List.{List}
 use lib.Dec.{eqb}
 use lib.ListN.{length}
 use Rattle.laws.specs.Scan.{first}
+use Rattle.laws.specs.Sums.{sumOf}
 use Rattle.charset.specs.Table.{isPage}
 use Rattle.records.specs.declared.TField.the-variants.{T14a, T14b}
 use Rattle.fields.specs.Class.{allOf}
@@ -19,7 +20,6 @@ use Rattle.structure.specs.declared.Shape.the-variants.{Fits, Refused}
 use Rattle.judge.specs.First.{firstRule}
 use Rattle.judge.specs.Content.{faultOf, ruleFrom, ruleEnd}
 use Rattle.judge.specs.Sums.{euros, euroSum}
-use Rattle.judge.specs.Records.{sumOf}
 use Rattle.forwarding.specs.Forwarded.{notesOf}
 use Rattle.sorting.specs.Kept.{keptIn, returnedIn, keptFile}
 use Rattle.sorting.specs.declared.Shares.{Shares}

@@ -12,6 +12,7 @@ use lib.Dec.{eqb}
 use lib.ListN.{length, getD}
 use Rattle.laws.specs.Choice.{both, off-eq}
 use Rattle.laws.specs.Scan.{Means, means}
+use Rattle.laws.specs.Sums.{sumOf}
 use Rattle.records.specs.Inside.{part-le}
 use Rattle.records.specs.declared.TField.the-variants.{T3, T4b}
 use Rattle.records.specs.declared.ZField.the-variants.{Z3, Z4}
@@ -25,7 +26,7 @@ use Rattle.payments.specs.Key.{key-t3, key-t4b}
 use Rattle.structure.specs.Walk.{letterOf, allowed, faultIn}
 use Rattle.structure.specs.Whole.{whole, no-fault}
 use Rattle.judge.specs.Sums.{euros}
-use Rattle.judge.specs.Records.{Lengths, sumOf}
+use Rattle.judge.specs.Records.{Lengths}
 use Rattle.judge.specs.ByRecords.{Heads, Keeps}
 use Rattle.sorting.specs.Kept.{firstOf, kept, freshZ}
 use Rattle.sorting.specs.Fresh.{ZRight, z-keeps, fresh-long, fresh-letter, fresh-fits, fresh-right}

@@ -7,6 +7,7 @@ use native.Mathlib.Omega.{arith}
 use borrow.Author.Tests.{eq-eqb}
 use lib.ListN.{length, getD}
 use Rattle.laws.specs.Steps.{empty}
+use Rattle.laws.specs.Sums.{sumOf}
 use Rattle.records.specs.declared.TField.the-variants.{T14a, T14b}
 use Rattle.fields.specs.Class.{allOf}
 use Rattle.fields.specs.declared.Class.the-variants.{Digit}
@@ -17,7 +18,7 @@ use Rattle.structure.specs.Walk.{structureOf}
 use Rattle.structure.specs.declared.Shape.the-variants.{Fits}
 use Rattle.judge.specs.Content.{contentOf}
 use Rattle.judge.specs.Sums.{euros, euroSum, centSum}
-use Rattle.judge.specs.Records.{fileOf, sumOf}
+use Rattle.judge.specs.Records.{fileOf}
 use Rattle.judge.specs.ByRecords.{Keeps, slot-t, sum-by-records, sound-by-records}
 use Rattle.judge.specs.Verdict.{verdictOf}
 use Rattle.judge.specs.Told.{told-sound}

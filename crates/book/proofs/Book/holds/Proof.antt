@@ -6,7 +6,7 @@ use mathlib.Core.Bool.{Bool, _||_}
 use lib.Dec.{eqb}
 use lib.ListN.{length, getD, take}
 use Rattle.book.specs.Model.{holds}
-use Rattle.book.specs.Kept.{pair}
+use Rattle.book.specs.Kept.{entryOf}
 use Rattle.book.specs.Laws.{unmapped, holds-next, filled}
 use Rattle.book.proofs.Book.holds.Statement.{statement}
 use Rattle.book.proofs.Book.holds.Tie as tie
@@ -24,8 +24,8 @@ loop-again : tie.Need-loop-again Inv-loop μ-loop
 loop-again c =
     let l = c .before .before .before .loop in
     let a = c .before .before .before .before .before .before .args in
-    let step = holds-next (a .self .places) (l .i) (pair 0 0) (omega (arith, long (c .before .before .before .before .before), l .inv .1, c .before .before .loop-test .taken)) (a .number) in
-    (omega (arith, c .before .before .loop-test .taken), l .inv .1, ap (λ (b : Bool). b || eqb (getD (a .self .places) (l .i) (pair 0 0) .number) (a .number)) (l .inv .2) ∙ step)
+    let step = holds-next (a .self .places) (l .i) (entryOf 0 0 0 0) (omega (arith, long (c .before .before .before .before .before), l .inv .1, c .before .before .loop-test .taken)) (a .number) in
+    (omega (arith, c .before .before .loop-test .taken), l .inv .1, ap (λ (b : Bool). b || eqb (getD (a .self .places) (l .i) (entryOf 0 0 0 0) .number) (a .number)) (l .inv .2) ∙ step)
 
 returns : tie.Need-returns Inv-loop μ-loop
 returns c =

@@ -9,8 +9,8 @@ use Rattle.laws.specs.Choice.{on-not, off-not}
 use Rattle.book.specs.Model.{model, heldOn}
 use Rattle.book.specs.declared.Entry.{Entry}
 use Rattle.book.specs.declared.Book.{Book}
-use Rattle.book.specs.Kept.{pair, bookOf}
-use Rattle.book.specs.Laws.{unmapped, held-few, unlessForgotten, keeps-next, filled}
+use Rattle.book.specs.Kept.{entryOf, bookOf}
+use Rattle.book.specs.Laws.{unmapped, held-few, totals-added, unlessForgotten, keeps-next, filled}
 use Rattle.book.proofs.Book.on.Statement.{statement}
 use Rattle.book.proofs.Book.on.Tie as tie
 
@@ -40,10 +40,10 @@ loop-again : tie.Need-loop-again Inv-loop μ-loop
 loop-again c =
     let l = c .before .before .before .before .loop in
     let a = c .before .before .before .before .before .before .before .before .args in
-    let e = getD (a .self .places) (l .i) (pair 0 0) in
-    let step = keeps-next (a .self .places) (l .i) (pair 0 0) (omega (arith, few (c .before .before .before), long (c .before .before .before .before .before .before .before))) (a .day) (few (c .before .before .before)) in
+    let e = getD (a .self .places) (l .i) (entryOf 0 0 0 0) in
+    let step = keeps-next (a .self .places) (l .i) (entryOf 0 0 0 0) (omega (arith, few (c .before .before .before), long (c .before .before .before .before .before .before .before))) (a .day) (few (c .before .before .before)) in
     let kept : c .if1 .kept ≡ unlessForgotten (a .day) (l .kept) e =
-    ⊎-elim (λ w. off-not _ (c .before .is-forgotten .ensures) (w .0 .taken) (w .1)) (λ w. on-not _ (c .before .is-forgotten .ensures) (w .0 .left) (w .1)) (c .if1 .came) in
+    ⊎-elim (λ w. off-not _ (c .before .is-forgotten .ensures) (w .0 .taken) (w .3 ∙ totals-added (l .kept) e (w .1 .ensures) (w .2 .ensures))) (λ w. on-not _ (c .before .is-forgotten .ensures) (w .0 .left) (w .1)) (c .if1 .came) in
     (omega (arith, c .before .before .before .loop-test .taken), l .inv .1, kept ∙ ap (λ (b : Book). unlessForgotten (a .day) b e) (l .inv .2) ∙ step)
 
 returns : tie.Need-returns Inv-loop μ-loop
@@ -68,6 +68,8 @@ on-spec =
     (λ c. record { fits = omega (arith, room (c .before .before .before)) })
     (λ c. room (c .before .before .before))
     (λ c. record { fits = omega (arith, room (c .before .before .before)) })
+    (λ c κs. search needs)
+    (λ c κs. search needs)
     (λ c. search needs)
     (λ c. search needs)
     loop-again
