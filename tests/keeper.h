@@ -7,6 +7,7 @@
 
 plain_book desk_open_new_book(void);
 void desk_open_book(plain_book book);
-plain_taken desk_take(uint64_t number, uint32_t day);
+plain_taken desk_take(uint64_t number, uint32_t day, uint64_t payments, uint64_t euros);
+plain_totals desk_kept_totals(void);                /* not desk_totals, which is a type of hosts/c/desk.h */
 
 #endif

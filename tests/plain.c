@@ -1,5 +1,5 @@
-/* The second opinion of the comparison, written from document 01, requests A1, A2, A3, A5, A6 and A7 of document 02 and,
-   for A6, table 15 of source document 000 alone, for plainness and not for speed. The order is document 01's: records,
+/* The second opinion of the comparison, written from document 01, requests A1, A2, A3, A5, A6, A7 and A8 of document 02
+   and, for A6, table 15 of source document 000 alone, for plainness and not for speed. The order is document 01's: records,
    character table, walk, rules, calls. Sentences of the papers stand as comments beside what does them. */
 #include "plain.h"
 
@@ -1212,59 +1212,81 @@ plain_part plain_show(const uint8_t *file, size_t n, uint64_t record, uint64_t f
 
 /* ---- The book of taken files ---- */
 
-/* Memory of its own: the book as it stands, and every pair of number and day that was ever taken in it, in their order. No
-   pair is struck out: which of them are held is a question about a day. */
+/* Memory of its own: the book as it stands, and every pair of number and day that was ever taken in it, in their order.
+   Each entry now also holds its file's payments and whole euros. None is struck out: which of them are held is a question
+   about a day. */
 static plain_book own_book;
-static plain_pair own_pairs[PLAIN_PLACES + PLAIN_TAKES];
-static size_t own_pairs_n;
+static plain_entry own_entries[PLAIN_PLACES + PLAIN_TAKES];
+static size_t own_entries_n;
 
-static void add_pair(plain_pair pair)
+static void add_entry(plain_entry entry)
 {
-    if (own_pairs_n < sizeof own_pairs / sizeof own_pairs[0])
-        own_pairs[own_pairs_n++] = pair;
+    if (own_entries_n < sizeof own_entries / sizeof own_entries[0])
+        own_entries[own_entries_n++] = entry;
 }
 
+/* Its totals are stored as they are handed in: only a take makes them anew. */
 void plain_open_book(plain_book book)
 {
     own_book = book;
-    own_pairs_n = 0;
+    own_entries_n = 0;
     for (size_t i = 0; i < book.held && i < PLAIN_PLACES; i++)
-        add_pair(book.places[i]);
+        add_entry(book.places[i]);
 }
 
-/* A new book is on day 0. */
+/* A new book is on day 0. The sums over no pairs are 0. */
 plain_book plain_open_new_book(void)
 {
-    plain_open_book((plain_book){.day = 0, .held = 0});
+    plain_open_book((plain_book){.day = 0, .held = 0, .payments = 0, .euros = 0});
     return own_book;
 }
 
 /* A number is taken on a business day, counted by the caller, and forgotten once the day is five or more later. */
-static bool is_forgotten(plain_pair pair, uint32_t day)
+static bool is_forgotten(plain_entry entry, uint32_t day)
 {
-    return day > pair.day && day - pair.day >= 5;
+    return day > entry.day && day - entry.day >= 5;
 }
 
 static bool is_held(uint64_t number, uint32_t day)
 {
-    for (size_t i = 0; i < own_pairs_n; i++)
-        if (own_pairs[i].number == number && !is_forgotten(own_pairs[i], day))
+    for (size_t i = 0; i < own_entries_n; i++)
+        if (own_entries[i].number == number && !is_forgotten(own_entries[i], day))
             return true;
     return false;
 }
 
-/* The book on a day: what is held then, in no more than all places, and nothing behind it. */
+/* The sums over the held pairs, each made anew over all entries; modulo 2^64, which no takes come near. */
+static uint64_t payments_on(uint32_t day)
+{
+    uint64_t payments = 0;
+    for (size_t i = 0; i < own_entries_n; i++)
+        payments += is_forgotten(own_entries[i], day) ? 0 : own_entries[i].payments;
+    return payments;
+}
+
+static uint64_t euros_on(uint32_t day)
+{
+    uint64_t euros = 0;
+    for (size_t i = 0; i < own_entries_n; i++)
+        euros += is_forgotten(own_entries[i], day) ? 0 : own_entries[i].euros;
+    return euros;
+}
+
+/* The book on a day: what is held then, in no more than all places, and nothing behind it. The book holds both totals. */
 static plain_book book_on(uint32_t day)
 {
-    plain_book book = {.day = day};
-    for (size_t i = 0; i < own_pairs_n; i++)
-        if (!is_forgotten(own_pairs[i], day) && book.held < PLAIN_PLACES)
-            book.places[book.held++] = own_pairs[i];
+    plain_book book = {.day = day, .payments = payments_on(day), .euros = euros_on(day)};
+    for (size_t i = 0; i < own_entries_n; i++)
+        if (!is_forgotten(own_entries[i], day) && book.held < PLAIN_PLACES)
+            book.places[book.held++] = own_entries[i];
     return book;
 }
 
-static uint64_t refusal_of_take(uint64_t number, uint32_t day)
+static uint64_t refusal_of_take(uint64_t number, uint32_t day, uint64_t payments, uint64_t euros)
 {
+    /* A take passes payments up to 9,999 and euros up to 999,999,999,999,999. 53 for larger figures, before 52. */
+    if (payments > 9999 || euros > 999999999999999)
+        return 53;
     /* Refusals, in order: 52 for a day earlier than the book's, */
     if (day < own_book.day)
         return 52;
@@ -1277,13 +1299,20 @@ static uint64_t refusal_of_take(uint64_t number, uint32_t day)
     return 0;
 }
 
-plain_taken plain_take(uint64_t number, uint32_t day)
+plain_taken plain_take(uint64_t number, uint32_t day, uint64_t payments, uint64_t euros)
 {
-    uint64_t refusal = refusal_of_take(number, day);
+    uint64_t refusal = refusal_of_take(number, day, payments, euros);
     /* A refused call leaves the book, its day included, unchanged. */
     if (refusal == 0) {
-        add_pair((plain_pair){number, day});
+        add_entry((plain_entry){number, day, payments, euros});
+        /* After any calls the stored totals equal the sums over the held pairs of A7. */
         own_book = book_on(day);
     }
     return (plain_taken){own_book, refusal};
+}
+
+/* The screen adds up all 200 entries with each refresh; now it is told what is stored. */
+plain_totals plain_kept_totals(void)
+{
+    return (plain_totals){own_book.held, own_book.payments, own_book.euros};
 }

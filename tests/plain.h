@@ -1,6 +1,6 @@
-/* The second opinion of the comparison: the calls of document 01 and of requests A3, A5, A6 and A7 of document 02 in plain
-   C, written from document 01, requests A1, A2, A3, A5, A6 and A7 and, for A6, table 15 of source document 000 alone, for
-   plainness and not for speed.
+/* The second opinion of the comparison: the calls of document 01 and of requests A3, A5, A6, A7 and A8 of document 02 in
+   plain C, written from document 01, requests A1, A2, A3, A5, A6, A7 and A8 and, for A6, table 15 of source document 000
+   alone, for plainness and not for speed.
 
    In every call a file, a list or a table of codes is lent as a pointer and its length; with length 0 the pointer is not
    followed. transfer and cheque are the country lists, two bytes a country, a lone last byte ignored. Memory lent for
@@ -88,20 +88,26 @@ plain_restored plain_restore(uint32_t page, const uint8_t *forwarded, size_t n, 
    the record doesn't exist, or that record has no such field. */
 plain_part plain_show(const uint8_t *file, size_t n, uint64_t record, uint64_t field);
 
-/* The book of taken files as it stands: its day, how many numbers are held, and 200 places, of which the first so many
-   hold them, each with the day on which it was taken, in the order in which they were. Taking one answers 0 or its
-   refusal, 52, 50 or 51, and the book as it then stands. */
+/* The book of taken files as it stands: its day, how many files are held, the payments and the whole euros of all of them
+   together, and 200 places, of which the first so many hold the files, in the order in which they were taken: the number,
+   the day on which it was taken, the file's payments and its whole euros. Taking one answers 0 or its refusal, 53, 52, 50
+   or 51, and the book as it then stands. */
 enum { PLAIN_PLACES = 200, PLAIN_TAKES = 10000 };
-typedef struct { uint64_t number; uint32_t day; } plain_pair;
-typedef struct { uint32_t day; uint64_t held; plain_pair places[PLAIN_PLACES]; } plain_book;
+typedef struct { uint64_t number; uint32_t day; uint64_t payments, euros; } plain_entry;
+typedef struct { uint32_t day; uint64_t held, payments, euros; plain_entry places[PLAIN_PLACES]; } plain_book;
 typedef struct { plain_book book; uint64_t number; } plain_taken;
+typedef struct { uint64_t files, payments, euros; } plain_totals;
 
-/* Opens a new book, which is the answer, or any book; takes a number on a day in the one that was opened last, at most
-   PLAIN_TAKES times. What is done with a book that no take leaves is what hosts/c/desk.h says. Where held is more than
-   200, all places count. Each place counts by itself, also where a number stands in two. A number with a later day than
-   that of the take is held. After a take that is not refused there are zeros behind the held numbers. */
+/* Opens a new book, which is the answer, or any book; takes a file in the one that was opened last, at most PLAIN_TAKES
+   times. What is done with a book that no take leaves is what hosts/c/desk.h says. Where held is more than 200, all places
+   count. Each place counts by itself, also where a number stands in two. A number with a later day than that of the take is
+   held. No take reads the totals of a book that is opened: after one that is not refused they are the sums over the
+   places that are then held, modulo 2^64, and there are zeros behind the held files. */
 plain_book plain_open_new_book(void);
 void plain_open_book(plain_book book);
-plain_taken plain_take(uint64_t number, uint32_t day);
+plain_taken plain_take(uint64_t number, uint32_t day, uint64_t payments, uint64_t euros);
+
+/* The totals as they are stored in the book that was opened last, and how many files it says that it holds. */
+plain_totals plain_kept_totals(void);
 
 #endif

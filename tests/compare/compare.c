@@ -2,7 +2,7 @@
    the papers ask for.
 
    compare [--seed N] [--calls N]
-       The suites, some 4.6 million calls; then random files, until N calls more are made with them, and random books.
+       The suites, some 4.8 million calls; then random files, until N calls more are made with them, and random books.
    compare --suite NAME
        One suite alone.
    compare --seconds N [--seed N]

@@ -79,7 +79,7 @@ void random_sorting(void);                          /* with the annexes, on the 
 /* m8.c: request A6, M8 records for the returned payments, on both pages; it leaves page 0 in use. */
 void each_m8(void);
 
-/* book.c: request A7, the book of taken files. */
+/* book.c: requests A7 and A8, the book of taken files. */
 void each_book(void);
 void random_book(void);
 
