@@ -26,7 +26,7 @@ abbrev pub placesOf : List Entry → List Entry
 placesOf es = es ++ replicate (200 - length es) (entryOf 0 0 0 0)
 
 -- A8: "the book holds both totals", in 64 bits each: of what takes from a new book hold they are the very sums
--- (keeping/Keeping `TotalsAreSums`)
+-- (keeping/Totals `TotalsAreSums`)
 abbrev pub bookOf : Model → Book
 bookOf m =
     record {

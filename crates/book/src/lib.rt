@@ -164,6 +164,7 @@ impl Book {
     pub fn take(self, number: u64, day: u32, payments: u64, euros: u64) -> Taken
         ensures { λ r. ⌜ TakenAs self (entryOf number day payments euros) r ⌝ }
     {
+        let today = self.day;
         let entry = Entry {
             number,
             day,
@@ -173,7 +174,7 @@ impl Book {
         if is_too_large(entry) {
             return answer(self, 53);
         }
-        if day < self.day {
+        if day < today {
             return answer(self, 52);
         }
         let kept = self.on(day);

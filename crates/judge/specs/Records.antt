@@ -1,6 +1,6 @@
 -- Document 01, "Records" (RULES 2.1): "A file is one Q record, one or more T records, one Z record", and "Q 256, T 768, Z
 -- 256". A file by its records: q, the T records ts and z, joined.
-use Prim.Native.Nat.{ℕ, _+_}
+use Prim.Native.Nat.{ℕ}
 use mathlib.Core.Path.{_≡_}
 use mathlib.Core.List.{List, [], _∷_, _++_}
 use lib.ListN.{length}

@@ -73,6 +73,14 @@ module _ (m : Model) (e : Entry) where
   unfolding after
   taken-is h = sym (on _ h refl)
 
+  -- what holds where it is refused and where it is not holds after it
+  pub either-way : (P : Model → Type 0) → P m → (answerOf m e ≡ 0 → P (model (e .day) (heldOn (e .day) (m .held) ++ (e ∷ [])))) → P (after m e)
+  either-way P refused taken = go (eqb (answerOf m e) 0) refl
+    where
+      go : (b : Bool) → eqb (answerOf m e) 0 ≡ b → P (after m e)
+      go false h = subst P (sym (refused-stays h)) refused
+      go true h = subst P (sym (taken-is h)) (taken (eqb-true (answerOf m e) 0 h))
+
   took-number : takenOf (bookOf m) e .number ≡ answerOf m e
   unfolding takenOf
   took-number = ap (λ (x : Model). answerOf x e) (same-model m)

@@ -4,8 +4,6 @@ use mathlib.Core.Path.{_≡_, refl, sym, ap, ap₂, subst, _∙_}
 use mathlib.Core.Bool.{Bool, true, false, cond}
 use mathlib.Core.List.{List, [], _∷_, _++_, append-nil}
 use native.Mathlib.Omega.{arith}
-use borrow.Author.Tests.{eqb-true}
-use lib.Dec.{eqb}
 use lib.ListN.{length, replicate, length-append}
 use lib.Seq.{append-snoc}
 use Rattle.laws.specs.Choice.{off, on-eq, off-eq, off-lt}
@@ -17,7 +15,7 @@ use Rattle.book.specs.Kept.{heldIn, bookOf}
 use Rattle.book.specs.Laws.{held-append, held-few, held-is}
 use Rattle.keeping.specs.Keeping.{Takes, answersBy, TakesRebuild}
 use Rattle.keeping.proofs.Forgetting.{held-later, held-turned, holds-not}
-use Rattle.keeping.proofs.Keeping.{accepted, refused-stays, taken-is, all-takes}
+use Rattle.keeping.proofs.Keeping.{accepted, either-way, all-takes}
 
 -- a take that is accepted, and by which nothing is forgotten
 pub record Joins (m : Model) (e : Entry) : Type 0 where
@@ -132,16 +130,12 @@ module _ (m : Model) (e : Entry) (r : Reached m) where
       }
 
   reaches : Reached (after m e)
-  reaches = go (eqb (answerOf m e) 0) refl
-    where
-      go : (b : Bool) → eqb (answerOf m e) 0 ≡ b → Reached (after m e)
-      go false h = subst Reached (sym (refused-stays m e h)) r
-      go true h =
-          subst Reached (sym (taken-is m e h))
-          record {
-            runs = runs-more empty kept e (runs-held (e .day) [] (m .held) 0 0 (omega arith) (r .runs)) (joins (eqb-true (answerOf m e) 0 h));
-            last = last-more 0 kept e;
-          }
+  reaches =
+      either-way m e Reached r (λ zero.
+      record {
+        runs = runs-more empty kept e (runs-held (e .day) [] (m .held) 0 0 (omega arith) (r .runs)) (joins zero);
+        last = last-more 0 kept e;
+      })
 
 pub reached-all : (m : Model) (es : List Entry) → Reached m → Reached (fold after m es)
 reached-all m [] r = r

@@ -5,7 +5,7 @@ use mathlib.Core.Bool.{Bool, true, false, _||_, cond, false≢true}
 use mathlib.Core.List.{List, [], _∷_, _++_}
 use native.Mathlib.Nat.{mod-eq-of-lt}
 use native.Mathlib.Omega.{arith}
-use borrow.Author.Tests.{ltb-false, lt-leb, eqb-true}
+use borrow.Author.Tests.{ltb-false, lt-leb}
 use lib.Dec.{eqb, ltb, leb}
 use lib.ListN.{length}
 use Rattle.laws.specs.Steps.{fold}
@@ -15,10 +15,10 @@ use Rattle.book.specs.declared.Book.{Book}
 use Rattle.book.specs.Model.{Model, model, empty, isForgotten, heldOn, holds, isTooLarge, answerOf, after}
 use Rattle.book.specs.Kept.{totalsOf}
 use Rattle.book.specs.Laws.{held-append}
-use Rattle.keeping.specs.Keeping.{Takes, answersBy, added}
+use Rattle.keeping.specs.Keeping.{answersBy, added}
 use Rattle.keeping.specs.Totals.{sums, TotalsAreSums, TotalsOfPlainSet, SamePairs, AnswersByPairs, TotalsSettled}
 use Rattle.keeping.proofs.Forgetting.{held-later}
-use Rattle.keeping.proofs.Keeping.{refused-stays, taken-is, all-takes, Alike, still-alike}
+use Rattle.keeping.proofs.Keeping.{refused-stays, taken-is, either-way, all-takes, Alike, still-alike}
 use Rattle.keeping.proofs.Rebuilding.{with, Runs, runs-few, Reached, reached-all}
 
 module _ (e : Entry) (small : isTooLarge e ≡ false) where
@@ -71,14 +71,10 @@ module _ (m : Model) (e : Entry) (t : Todays m) where
   today = ap (λ (b : Bool). cond b [] one) (lt-leb 5 (e .day - e .day) (omega arith))
 
   todays-after : Todays (after m e)
-  todays-after = go (eqb (answerOf m e) 0) refl
-    where
-      go : (b : Bool) → eqb (answerOf m e) 0 ≡ b → Todays (after m e)
-      go false h = subst Todays (sym (refused-stays m e h)) t
-      go true h =
-          subst Todays (sym (taken-is m e h))
-          (held-append (e .day) (heldOn (e .day) (m .held)) one
-          ∙ ap₂ (λ (xs ys : List Entry). xs ++ ys) (held-later (e .day) (e .day) (omega arith) (m .held)) today)
+  todays-after =
+      either-way m e Todays t (λ zero.
+      held-append (e .day) (heldOn (e .day) (m .held)) one
+      ∙ ap₂ (λ (xs ys : List Entry). xs ++ ys) (held-later (e .day) (e .day) (omega arith) (m .held)) today)
 
 todays-all : (m : Model) (es : List Entry) → Todays m → Todays (fold after m es)
 todays-all m [] t = t

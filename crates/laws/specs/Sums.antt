@@ -1,9 +1,8 @@
 -- The sum of a figure over a list.
-use Prim.Native.Nat.{ℕ, _+_, _*_, _≤_}
+use Prim.Native.Nat.{ℕ, _+_}
 use mathlib.Core.Path.{_≡_}
 use mathlib.Core.List.{List, [], _∷_, _++_}
 use native.Mathlib.Omega.{arith}
-use lib.ListN.{length}
 
 abbrev pub sumOf : {A : Type 0} → (A → ℕ) → List A → ℕ
 sumOf f [] = 0

@@ -6,34 +6,35 @@ use Rattle.book.specs.Laws.{unmapped, too-large, too-early, is-held, is-
 use Rattle.book.proofs.Book.take.Statement.{statement}
 use Rattle.book.proofs.Book.take.Tie as tie
 
-long : (c : tie.After-struct-known) → length (c .before .before .before .args .self .places) ≡ 200
+long : (c : tie.Start) → length (c .args .self .places) ≡ 200
 long c = search (needs, unmapped)
 
 returns : tie.Need-returns
 returns c = c .answer .ensures ∙ too-large _ _ (c .before .before .is-too-large .ensures) (c .before .if1 .taken)
 
 returns-2 : tie.Need-returns-2
-returns-2 c = c .answer2 .ensures ∙ too-early _ _ (c .before .before .before .before .is-too-large .ensures) (c .before .before .before .if1 .left) (c .before .if2 .taken)
+returns-2 c = c .answer2 .ensures ∙ too-early _ _ (c .before .before .before .is-too-large .ensures) (c .before .before .if1 .left) (c .before .if2 .taken)
 
 returns-3 : tie.Need-returns-3
 returns-3 c =
     c .answer3 .ensures
-    ∙ is-held _ _ (c .before .before .before .before .before .before .before .is-too-large .ensures) (c .before .before .before .before .before .before .if1 .left) (c .before .before .before .before .if2 .left) (c .before .before .before .on .ensures) (c .before .before .holds .ensures) (c .before .if3 .taken)
+    ∙ is-held _ _ (c .before .before .before .before .before .before .is-too-large .ensures) (c .before .before .before .before .before .if1 .left) (c .before .before .before .before .if2 .left) (c .before .before .before .on .ensures) (c .before .before .holds .ensures) (c .before .if3 .taken)
 
 returns-4 : tie.Need-returns-4
 returns-4 c =
     c .answer4 .ensures
-    ∙ is-full _ _ (c .before .before .before .before .before .before .before .before .before .is-too-large .ensures) (c .before .before .before .before .before .before .before .before .if1 .left) (c .before .before .before .before .before .before .if2 .left) (c .before .before .before .before .before .on .ensures) (c .before .before .before .before .holds .ensures) (c .before .before .before .if3 .left) (c .before .if4 .taken)
+    ∙ is-full _ _ (c .before .before .before .before .before .before .before .before .is-too-large .ensures) (c .before .before .before .before .before .before .before .if1 .left) (c .before .before .before .before .before .before .if2 .left) (c .before .before .before .before .before .on .ensures) (c .before .before .before .before .holds .ensures) (c .before .before .before .if3 .left) (c .before .if4 .taken)
 
 with-requires : tie.Need-with-requires
 with-requires c κs =
-    let a = c .before .before .before .before .before .before .before .before .before .args in
-    has-room (a .self) (entryOf (a .number) (a .day) (a .payments) (a .euros)) (c .before .before .before .before .before .before .before .before .is-too-large .ensures) (c .before .before .before .before .before .before .before .if1 .left) (c .before .before .before .before .before .if2 .left) (c .before .before .before .before .on .ensures) (c .before .before .before .holds .ensures) (long (c .before .before .before .before .before .before)) (c .if4 .left)
+    let start = c .before .before .before .before .before .before .before .before in
+    let a = start .args in
+    has-room (a .self) (entryOf (a .number) (a .day) (a .payments) (a .euros)) (c .before .before .before .before .before .before .before .is-too-large .ensures) (c .before .before .before .before .before .before .if1 .left) (c .before .before .before .before .before .if2 .left) (c .before .before .before .before .on .ensures) (c .before .before .before .holds .ensures) (long start) (c .if4 .left)
 
 returns-5 : tie.Need-returns-5
 returns-5 c =
     c .answer5 .ensures
-    ∙ is-taken _ _ (c .before .before .before .before .before .before .before .before .before .before .is-too-large .ensures) (c .before .before .before .before .before .before .before .before .before .if1 .left) (c .before .before .before .before .before .before .before .if2 .left) (c .before .before .before .before .before .before .on .ensures) (c .before .before .before .before .before .holds .ensures) (long (c .before .before .before .before .before .before .before .before)) (c .before .before .if4 .left) (c .before .before .before .before .if3 .left) (c .before .with .ensures)
+    ∙ is-taken _ _ (c .before .before .before .before .before .before .before .before .before .is-too-large .ensures) (c .before .before .before .before .before .before .before .before .if1 .left) (c .before .before .before .before .before .before .before .if2 .left) (c .before .before .before .before .before .before .on .ensures) (c .before .before .before .before .before .holds .ensures) (long (c .before .before .before .before .before .before .before .before .before .before)) (c .before .before .if4 .left) (c .before .before .before .before .if3 .left) (c .before .with .ensures)
 
 pub take-spec : {M : Type 1} → statement M
 take-spec =
