@@ -5,7 +5,7 @@ mod desk;
 
 use desk::Page::{Din66003, Iso8859_1};
 use desk::{
-    Answer, Book, Entry, Field, Judgement, Lists, Note, Page, Prepared, Reader, Refusal, BOOK_PLACES, M8_CODES,
+    Answer, Book, Entry, Field, Judgement, Lists, Note, Page, Prepared, Reader, Refusal, Totals, BOOK_PLACES, M8_CODES,
     M8_RECORD,
 };
 use std::io::{self, ErrorKind, Read};
@@ -618,49 +618,143 @@ fn file_numbers() {
     }
 }
 
-fn entries(pairs: &[(u64, u32)]) -> Vec<Entry> {
-    pairs.iter().map(|&(number, day)| Entry { number, day }).collect()
+/// A held file: its number, the day on which it was taken, its payments and its whole euros.
+type Row = (u64, u32, u64, u64);
+
+/// The most payments and whole euros that a take passes.
+const MOST_PAYMENTS: u64 = 9_999;
+const MOST_EUROS: u64 = 999_999_999_999_999;
+
+fn entries(rows: &[Row]) -> Vec<Entry> {
+    rows.iter().map(|&(number, day, payments, euros)| Entry { number, day, payments, euros }).collect()
 }
 
-/// What the book answers to a take, which changes it only where it is not refused.
-fn take(book: &mut Book, number: u64, day: u32) -> Result<(), Refusal> {
+/// What the book answers to a take. The take changes it only where it is not refused; and always the totals are the sums over
+/// what is held.
+fn take_row(book: &mut Book, (number, day, payments, euros): Row) -> Result<(), Refusal> {
     let before = book.clone();
-    let answer = book.take(number, day);
+    let answer = book.take(number, day, payments, euros);
     assert_eq!(*book == before, answer.is_err());
+    let held = book.held();
+    let payments = held.iter().map(|entry| entry.payments).sum();
+    let euros = held.iter().map(|entry| entry.euros).sum();
+    assert_eq!(book.totals(), Totals { files: held.len(), payments, euros });
     answer
+}
+
+/// The same of a file of one payment and no whole euro.
+fn take(book: &mut Book, number: u64, day: u32) -> Result<(), Refusal> {
+    take_row(book, (number, day, 1, 0))
+}
+
+/// The book that these takes leave, none of which is refused.
+fn book_of(rows: &[Row]) -> Book {
+    let mut book = Book::new();
+    assert!(rows.iter().all(|&row| take_row(&mut book, row).is_ok()));
+    book
+}
+
+/// The book is on this day, holds these files, and has these totals: files, payments and euros.
+fn is_left(book: &Book, day: u32, rows: &[Row], (files, payments, euros): (usize, u64, u64)) {
+    assert_eq!((book.day(), book.held()), (day, &entries(rows)[..]));
+    assert_eq!(book.totals(), Totals { files, payments, euros });
 }
 
 #[test]
 fn a_book_holds_a_number_for_five_days() {
     let mut book = Book::new();
-    assert_eq!((book.day(), book.held()), (0, &[][..]));
+    is_left(&book, 0, &[], (0, 0, 0));
     assert_eq!(book, Book::default());
-    assert_eq!(take(&mut book, 1226111601, 7), Ok(()));
+    assert_eq!(take_row(&mut book, (1226111601, 7, 3, 1199)), Ok(()));
     assert_eq!(take(&mut book, 1226111601, 6), refused(52, 0, 0));
     assert_eq!(take(&mut book, 1226111602, 6), refused(52, 0, 0));
     for day in 7..=11 {
         assert_eq!(take(&mut book, 1226111601, day), refused(50, 0, 0));
     }
-    assert_eq!(take(&mut book, 1226111602, 8), Ok(()));
-    assert_eq!((book.day(), book.held()), (8, &entries(&[(1226111601, 7), (1226111602, 8)])[..]));
-    assert_eq!(take(&mut book, 1226111601, 12), Ok(()));
-    assert_eq!((book.day(), book.held()), (12, &entries(&[(1226111602, 8), (1226111601, 12)])[..]));
-    assert_eq!(take(&mut book, 3, 17), Ok(()));
-    assert_eq!((book.day(), book.held()), (17, &entries(&[(3, 17)])[..]));
-    assert_eq!(format!("{book:?}"), "Book { day: 17, held: [Entry { number: 3, day: 17 }] }");
+    is_left(&book, 7, &[(1226111601, 7, 3, 1199)], (1, 3, 1199));
+    assert_eq!(take_row(&mut book, (1226111602, 8, 2, 349)), Ok(()));
+    is_left(&book, 8, &[(1226111601, 7, 3, 1199), (1226111602, 8, 2, 349)], (2, 5, 1548));
+    assert_eq!(take_row(&mut book, (1226111601, 12, 4, 2000)), Ok(()));
+    is_left(&book, 12, &[(1226111602, 8, 2, 349), (1226111601, 12, 4, 2000)], (2, 6, 2349));
+    assert_eq!(take_row(&mut book, (3, 17, 0, 0)), Ok(()));
+    is_left(&book, 17, &[(3, 17, 0, 0)], (1, 0, 0));
+}
+
+/// What `prepare` keeps of a file is what is paid. By the bytes of the samples: T14a of `sound` is 120, 79 and 1000, that of
+/// `cheques` 250 and 99; of `returned` records 1, 3 and 5 are kept, with 120, 1000 and 99.
+#[test]
+fn figures_of_the_samples() {
+    let mut book = Book::new();
+    for file in [SOUND, CHEQUES, RETURNED] {
+        let Prepared { kept, kept_euros, .. } = sorted(Iso8859_1, file).0;
+        let number = desk::file_number(file).unwrap();
+        assert_eq!(take_row(&mut book, (number, 7, kept as u64, kept_euros)), Ok(()));
+    }
+    let rows = [(1226111601, 7, 3, 1199), (1226111602, 7, 2, 349), (1226111603, 7, 3, 1219)];
+    is_left(&book, 7, &rows, (3, 8, 2767));
 }
 
 #[test]
-fn books_are_compared_by_day_and_numbers() {
-    let of = |takes: &[(u64, u32)]| {
-        let mut book = Book::new();
-        assert!(takes.iter().all(|&(number, day)| book.take(number, day).is_ok()));
-        book
-    };
-    assert_eq!(of(&[(1, 0), (2, 5)]), of(&[(2, 5)]));
-    for other in [&[(1, 5)][..], &[(2, 6)], &[(1, 4), (2, 5)], &[(2, 5), (1, 5)], &[]] {
-        assert_ne!(of(&[(2, 5)]), of(other));
+fn books_are_compared_by_all_that_they_hold() {
+    assert_eq!(book_of(&[(1, 0, 3, 4), (2, 5, 6, 7)]), book_of(&[(2, 5, 6, 7)]));
+    let others: [&[Row]; 8] = [
+        &[(1, 5, 6, 7)],
+        &[(2, 6, 6, 7)],
+        &[(2, 5, 7, 7)],
+        &[(2, 5, 6, 6)],
+        &[(1, 4, 0, 0), (2, 5, 6, 7)],
+        &[(2, 5, 6, 7), (1, 5, 0, 0)],
+        &[(1, 5, 0, 0), (2, 5, 6, 7)],
+        &[],
+    ];
+    for (i, other) in others.iter().enumerate() {
+        assert_ne!(book_of(&[(2, 5, 6, 7)]), book_of(other));
+        assert!(others[..i].iter().all(|another| book_of(another) != book_of(other)));
     }
+    let told = "Book { day: 17, totals: Totals { files: 1, payments: 3, euros: 1199 }, \
+        held: [Entry { number: 3, day: 17, payments: 3, euros: 1199 }] }";
+    assert_eq!(format!("{:?}", book_of(&[(3, 17, 3, 1199)])), told);
+}
+
+/// Each limit from both sides, by itself and beside the other.
+#[test]
+fn figures_that_are_too_large() {
+    let payments = [(0, true), (MOST_PAYMENTS, true), (MOST_PAYMENTS + 1, false), (1 << 32, false), (u64::MAX, false)];
+    let euros = [(0, true), (MOST_EUROS, true), (MOST_EUROS + 1, false), (u64::MAX, false)];
+    for ((payments, is_few), (euros, is_little)) in payments.into_iter().flat_map(|p| euros.map(|e| (p, e))) {
+        let mut book = book_of(&[(1, 7, 2, 3)]);
+        let due = if is_few && is_little { Ok(()) } else { refused(53, 0, 0) };
+        assert_eq!(take_row(&mut book, (2, 8, payments, euros)), due, "{payments}, {euros}");
+    }
+}
+
+/// Where a take would be refused with another number too, it is 53; with figures that pass it is that other one.
+#[test]
+fn large_figures_come_first() {
+    let rows: Vec<Row> = (0..200).map(|number| (number, 7, 1, 1)).collect();
+    for (number, day, other) in [(200, 6, 52), (0, 6, 52), (0, 7, 50), (199, 11, 50), (200, 7, 51), (200, 11, 51)] {
+        let mut book = book_of(&rows);
+        for (payments, euros) in [(MOST_PAYMENTS + 1, 1), (1, MOST_EUROS + 1), (u64::MAX, u64::MAX)] {
+            assert_eq!(take_row(&mut book, (number, day, payments, euros)), refused(53, 0, 0));
+        }
+        assert_eq!(take_row(&mut book, (number, day, MOST_PAYMENTS, MOST_EUROS)), refused(other, 0, 0));
+        is_left(&book, 7, &rows, (200, 200, 200));
+    }
+}
+
+/// On day 12 all 200 are forgotten, but a refused take forgets none of them: the totals are those of day 7 until one is
+/// accepted.
+#[test]
+fn totals_of_the_largest_figures() {
+    let rows: Vec<Row> = (0..200).map(|number| (number, 7, MOST_PAYMENTS, MOST_EUROS)).collect();
+    let mut book = book_of(&rows);
+    let all = (200, 1_999_800, 199_999_999_999_999_800);
+    is_left(&book, 7, &rows, all);
+    assert_eq!(take_row(&mut book, (200, 12, MOST_PAYMENTS, MOST_EUROS + 1)), refused(53, 0, 0));
+    assert_eq!(take_row(&mut book, (200, 11, MOST_PAYMENTS, MOST_EUROS)), refused(51, 0, 0));
+    is_left(&book, 7, &rows, all);
+    assert_eq!(take_row(&mut book, (200, 12, MOST_PAYMENTS, MOST_EUROS)), Ok(()));
+    is_left(&book, 12, &[(200, 12, MOST_PAYMENTS, MOST_EUROS)], (1, 9_999, 999_999_999_999_999));
 }
 
 /// With 200 numbers held, a held one is 50 still, and an earlier day 52. The first places are free with day 5, on which the
@@ -669,9 +763,9 @@ fn books_are_compared_by_day_and_numbers() {
 fn a_full_book() {
     let mut book = Book::new();
     for number in 0..BOOK_PLACES as u64 {
-        assert_eq!(take(&mut book, number, number as u32 / 100), Ok(()));
+        assert_eq!(take_row(&mut book, (number, number as u32 / 100, number, 10 * number)), Ok(()));
     }
-    assert_eq!((book.day(), book.held().len()), (1, 200));
+    assert_eq!((book.day(), book.totals()), (1, Totals { files: 200, payments: 19_900, euros: 199_000 }));
     for day in 1..5 {
         assert_eq!(take(&mut book, 200, day), refused(51, 0, 0));
         assert_eq!(take(&mut book, 199, day), refused(50, 0, 0));
@@ -679,9 +773,9 @@ fn a_full_book() {
     }
     assert_eq!(take(&mut book, 200, 0), refused(52, 0, 0));
     assert_eq!(take(&mut book, 0, 0), refused(52, 0, 0));
-    assert_eq!(take(&mut book, 0, 5), Ok(()));
-    let held: Vec<(u64, u32)> = (100..200).map(|number| (number, 1)).chain([(0, 5)]).collect();
-    assert_eq!(book.held(), entries(&held));
+    assert_eq!(take_row(&mut book, (0, 5, 7, 8)), Ok(()));
+    let rows: Vec<Row> = (100..200).map(|number| (number, 1, number, 10 * number)).chain([(0, 5, 7, 8)]).collect();
+    is_left(&book, 5, &rows, (101, 14_957, 149_508));
 }
 
 /// `free_from` is the first day on which a take of the number is not refused. The last day is 4,294,967,295.

@@ -1,10 +1,10 @@
 /* Linked into the example hosts by tests/hosts, with ld's --wrap: faults that are hard to cause from outside. The word in
    DESK_FAULT says which: with "restore" another byte comes back than went in; with "list" the payment behind the first
-   returned one is named in its place; with "m8" one M8 record too few is told; with "after=PATH" nothing gets the name
-   new-forwarded while nothing is at that path; with "full=PATH" the disk is full when what was written to that path, or to
-   that directory, is to go there; with "kept=PATH" that path cannot be removed while another name of its file is there;
-   with "killed" the host ends, and clears nothing up, where a file is to be renamed; and any other word is a name that
-   nothing gets. */
+   returned one is named in its place; with "large" more payments are kept than any file has; with "m8" one M8 record too few
+   is told; with "after=PATH" nothing gets the name new-forwarded while nothing is at that path; with "full=PATH" the disk is
+   full when what was written to that path, or to that directory, is to go there; with "kept=PATH" that path cannot be
+   removed while another name of its file is there; with "killed" the host ends, and clears nothing up, where a file is to be
+   renamed; and any other word is a name that nothing gets. */
 #include "../hosts/c/desk.h"
 
 #include <errno.h>
@@ -54,6 +54,8 @@ desk_prepared __wrap_desk_prepare(uint32_t page, const uint8_t *file, size_t n,
                                              returned, returned_n);
     if (fault_is("list"))
         returned[0] += 100;
+    if (fault_is("large"))
+        sent.kept = 10000;
     return sent;
 }
 

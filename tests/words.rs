@@ -20,7 +20,7 @@ fn readme() -> HashMap<u64, &'static str> {
 #[test]
 fn words() {
     let readme = readme();
-    assert_eq!(readme.len(), 41);
+    assert_eq!(readme.len(), 42);
     for number in 0..=100 {
         let words = readme.get(&number).copied().unwrap_or("no rule of the desk");
         assert_eq!(Refusal { number, record: 0, at: 0 }.words(), words, "{number}");
@@ -101,6 +101,7 @@ fn lines() {
         (50, 0, 0, "number 50: judge, book: the file number (Q4, Q6, Q7) is a taken one"),
         (51, 0, 0, "number 51: book: 200 numbers are held"),
         (52, 0, 0, "number 52: book: the day is earlier than the book's"),
+        (53, 0, 0, "number 53: book: more than 9,999 payments, or more than 999,999,999,999,999 euros"),
         (60, 0, 0, "number 60: prepare, M8, restore: output room shorter than the file that goes on or is restored, or than the M8 records"),
         (61, 0, 0, "number 61: prepare: more changes in the file that goes on than note places"),
         (62, 0, 0, "number 62: M8: the code table is not 96 bytes"),

@@ -1,22 +1,28 @@
 /* A host: keeps the numbers of the files that were sent in a book, so that none is sent twice. A file's number is taken on
-   a business day, which the office counts, and is forgotten five days later.
+   a business day, which the office counts, and is forgotten five days later. With it the book has the payments and the whole
+   euros of what went on, and the totals of all that it holds.
 
        book BOOK new                           makes a book file: on day 0, nothing is held
        book [--page 0|1] BOOK take DAY FILE    takes the number of FILE on DAY, if something of FILE goes on
        book BOOK list                          tells the book's day, what is held, and from which day on it is free
+       book BOOK totals                        tells how many files, payments and whole euros are held on the book's day
 
    The page says at which codes FILE has the four German characters: 0 is DIN 66003, 1 is ISO 8859-1. Where none is named
    it is 1. DAY is a number from 0 to 4294967295, in digits. A path that begins with - is written as ./-name.
 
    Something of FILE goes on where prepare, the default way, does not refuse it. Payments that break a rule come back: how
-   many is told, and they need a file of another number.
+   many is told, and they need a file of another number. They are not paid, so the book's figures are without them.
+
+   The totals are those of the book's day, on which the last number was taken: what would be forgotten by today counts until
+   the next take. A book from before there were figures (version 1 in docs/BOOK-FILE.md) has none: they count as 0, and list,
+   totals and take say so on standard error. What take writes has version 2.
 
    It loses no number, and nothing that fails changes BOOK:
    1. new makes a file where nothing is. What is there already is never replaced.
    2. take reads FILE and prepares it in memory. Where it is refused, that is told, and BOOK is not touched.
    3. BOOK.new is made: the path of BOOK with .new behind it. Only one program can make it, so no two take a number at the
       same time. Where it is there already, as a killed run leaves it, it stays and the run ends.
-   4. Only then is BOOK read. Every byte has to be as a desk writes it (docs/BOOK-FILE.md), and BOOK to be a regular file, no
+   4. Only then is BOOK read. Every byte has to be as a desk writes it, or did in version 1, and BOOK to be a regular file, no
       symbolic link. The number is taken in memory. Where it is refused, that is told.
    5. The new book is written to BOOK.new, down to the disk, and all is told. Where it cannot be printed nothing is taken.
    6. BOOK.new is renamed to BOOK, in one step. So at every moment BOOK is the whole old book or the whole new one.
@@ -127,7 +133,7 @@ static int end_work(const book_file *at_work, bool put(const char *new_path, con
     return FAILED;
 }
 
-/* Reads the book of a regular file, and the permissions of that. */
+/* Reads the book of a regular file, and the permissions of that. Where a book that is read has no figures, that is said. */
 static bool read_book(const char *path, desk_book *book, mode_t *mode)
 {
     static uint8_t text[DESK_BOOK_BYTES + 1];
@@ -139,7 +145,12 @@ static bool read_book(const char *path, desk_book *book, mode_t *mode)
     if (!S_ISREG(status.st_mode))
         return wrong(path, "is not a regular file; a symbolic link is not followed");
     *mode = status.st_mode & 0777;
-    return read_file(path, text, sizeof text, &n) && (desk_book_read(text, n, book, message) || wrong(path, message));
+    if (!read_file(path, text, sizeof text, &n))
+        return false;
+    bool is_read = desk_book_read(text, n, book, message);
+    if (message[0])
+        wrong(path, message);
+    return is_read;
 }
 
 static void tell_book(const desk_book *book)
@@ -158,7 +169,8 @@ static void tell_free(const desk_entry *entry)
 
 static void tell_entry(const desk_entry *entry)
 {
-    printf("file number %" PRIu64 ": taken on day %" PRIu32 ", ", entry->number, entry->day);
+    printf("file number %" PRIu64 ": taken on day %" PRIu32 ", %" PRIu64 " payments, %" PRIu64 " whole euros, ",
+           entry->number, entry->day, entry->payments, entry->euros);
     tell_free(entry);
 }
 
@@ -202,7 +214,20 @@ static int list_book(const char *path)
     return is_printed() ? DONE : FAILED;
 }
 
-/* Takes a number of which so many payments go on: the status to end with. */
+/* Tells the totals that a book has: the status to end with. */
+static int total_book(const char *path)
+{
+    desk_book book;
+    mode_t mode;
+    if (!read_book(path, &book, &mode))
+        return FAILED;
+    desk_totals totals = desk_book_totals(book);
+    printf("totals on day %" PRIu32 ": files %" PRIu64 ", payments %" PRIu64 ", whole euros %" PRIu64 "\n",
+           book.day, totals.files, totals.payments, totals.euros);
+    return is_printed() ? DONE : FAILED;
+}
+
+/* Takes a number, with the figures of what goes on: the status to end with. */
 static int take_number(const char *path, const desk_entry *asked, uint32_t page, const desk_prepared *sent)
 {
     book_file at_work;
@@ -216,7 +241,7 @@ static int take_number(const char *path, const desk_entry *asked, uint32_t page,
         wrong(at_work.new_path, strerror(errno));
         return give_up(&at_work, FAILED);
     }
-    desk_taken taken = desk_book_take(book, asked->number, asked->day);
+    desk_taken taken = desk_book_take(book, asked->number, asked->day, asked->payments, asked->euros);
     if (taken.number) {
         tell_not_taken(&book, asked, taken.number);
         return give_up(&at_work, is_printed() ? REFUSED : FAILED);
@@ -233,7 +258,7 @@ static int take_number(const char *path, const desk_entry *asked, uint32_t page,
 static int take_file(uint32_t page, const char *book_path, uint32_t day, const char *path)
 {
     static const uint64_t none_taken[1];
-    desk_entry asked = {0, day};
+    desk_entry asked = {.day = day};
     size_t n;
     if (!read_file(path, file, sizeof file, &n))
         return FAILED;
@@ -247,6 +272,8 @@ static int take_file(uint32_t page, const char *book_path, uint32_t day, const c
         wrong(path, "has no number"); /* cannot be: rules 11, 13 and 14 ask for digits */
         return FAILED;
     }
+    asked.payments = sent.kept;
+    asked.euros = sent.kept_euros;
     return take_number(book_path, &asked, page, &sent);
 }
 
@@ -267,18 +294,21 @@ static bool day_of(const char *word, uint32_t *day)
 /* What the words behind the page ask for: the status to end with. */
 static int work(uint32_t page, bool names_page, const words_left *left)
 {
+    static const struct { const char *word; int (*with_book)(const char *path); } works[] = {
+        {"new", make_book}, {"list", list_book}, {"totals", total_book},
+    };
     char **words = left->words;
     const char *asked = left->count > 1 ? words[1] : "";
     uint32_t day;
-    if (left->count == 2 && !names_page && strcmp(asked, "new") == 0)
-        return is_path(words[0]) ? make_book(words[0]) : FAILED;
-    if (left->count == 2 && !names_page && strcmp(asked, "list") == 0)
-        return is_path(words[0]) ? list_book(words[0]) : FAILED;
+    for (size_t i = 0; left->count == 2 && !names_page && i < sizeof works / sizeof works[0]; i++)
+        if (strcmp(asked, works[i].word) == 0)
+            return is_path(words[0]) ? works[i].with_book(words[0]) : FAILED;
     if (left->count == 4 && strcmp(asked, "take") == 0) {
         bool is_understood = is_path(words[0]) && day_of(words[2], &day) && is_path(words[3]);
         return is_understood ? take_file(page, words[0], day, words[3]) : FAILED;
     }
-    fprintf(stderr, "usage: book BOOK new, or book [--page 0|1] BOOK take DAY FILE, or book BOOK list\n");
+    fprintf(stderr, "usage: book BOOK new, or book [--page 0|1] BOOK take DAY FILE, or book BOOK list, "
+                    "or book BOOK totals\n");
     return FAILED;
 }
 

@@ -4,29 +4,41 @@
 #include <stdio.h>
 #include <string.h>
 
-enum { LINE_OF_DAY = 2, LINE_OF_FIRST = 4 };
+enum { LINE_OF_NAME = 1, LINE_OF_DAY = 2, LINE_OF_FIRST = 4 };
 
 /* A form of lines: a pattern, in which 0 stands for any digit and X for any capital hex digit, and what it says. */
 typedef struct { const char *pattern, *due; } form;
 static const form day_form = {"DAY 0000000000\n", "DAY, a space, 10 digits (at most 4294967295) and a line end (LF)"};
 static const form held_form = {"HELD 000\n", "HELD, a space, 3 digits (at most 200) and a line end (LF)"};
 static const form entry_form = {
+    "00000000000000000000 0000000000 0000 000000000000000\n",
+    "20 digits (at most 18446744073709551615), a space, 10 digits (at most 4294967295), a space, 4 digits, a space, "
+    "15 digits and a line end (LF)",
+};
+static const form entry_form_1 = { /* of version 1 */
     "00000000000000000000 0000000000\n",
     "20 digits (at most 18446744073709551615), a space, 10 digits (at most 4294967295) and a line end (LF)",
 };
 static const form crc_form = {"CRC XXXXXXXX\n", "CRC, a space, 8 hex digits (0 to 9, A to F) and a line end (LF)"};
 
-/* What is not yet read of a text, the number of the last line that was, and where it is said what is wrong. */
+/* What is not yet read of a text, the number of the last line that was, where it is said what is wrong, and whether the
+   version of the layout has payments and euros. */
 typedef struct {
     const uint8_t *next, *end;
     unsigned line;
     char *message;
+    bool has_figures;
 } reading;
+
+static void say(char *message, unsigned line, const char *what, const char *more)
+{
+    snprintf(message, DESK_BOOK_MESSAGE, "line %u: %s%s", line, what, more);
+}
 
 /* Says what is wrong with a line; always false, for the caller to hand on. */
 static bool wrong(char *message, unsigned line, const char *what, const char *more)
 {
-    snprintf(message, DESK_BOOK_MESSAGE, "line %u: %s%s", line, what, more);
+    say(message, line, what, more);
     return false;
 }
 
@@ -51,7 +63,7 @@ static bool fits(uint8_t byte, char due)
     return byte == (uint8_t)due;
 }
 
-/* Reads the first line. */
+/* Reads the first line, which names the version. */
 static bool read_name(reading *text)
 {
     static const char name[] = "KAARAVIZHE BOOK ";
@@ -65,9 +77,11 @@ static bool read_name(reading *text)
     if (i >= n)
         return cut_short(text);
     if (i == length || text->next[i] != '\n')
-        return malformed(text, "KAARAVIZHE BOOK 1 and a line end (LF)");
-    if (i > length + 1 || text->next[length] != '1')
-        return wrong(text->message, text->line, "another version of the layout; this desk reads version 1 alone", "");
+        return malformed(text, "KAARAVIZHE BOOK, a space, 1 or 2, and a line end (LF)");
+    const uint8_t version = text->next[length];
+    if (i > length + 1 || (version != '1' && version != '2'))
+        return wrong(text->message, text->line, "another version of the layout; this desk reads versions 1 and 2", "");
+    text->has_figures = version == '2';
     text->next += i + 1;
     return true;
 }
@@ -117,15 +131,20 @@ static bool read_held(reading *text, uint64_t *held)
     return line && number_at(text, &held_form, line + 5, 3, DESK_BOOK_PLACES, held);
 }
 
+/* Reads the line of a held number. Payments and euros have no more digits than a take passes; in version 1 they are 0. */
 static bool read_entry(reading *text, desk_entry *entry)
 {
     uint64_t day;
-    const uint8_t *line = next_line(text, &entry_form);
-    if (!line || !number_at(text, &entry_form, line, 20, UINT64_MAX, &entry->number)
-        || !number_at(text, &entry_form, line + 21, 10, UINT32_MAX, &day))
+    const form *due = text->has_figures ? &entry_form : &entry_form_1;
+    const uint8_t *line = next_line(text, due);
+    if (!line || !number_at(text, due, line, 20, UINT64_MAX, &entry->number)
+        || !number_at(text, due, line + 21, 10, UINT32_MAX, &day))
         return false;
     entry->day = (uint32_t)day;
-    return true;
+    entry->payments = entry->euros = 0;
+    return !text->has_figures
+        || (number_at(text, due, line + 32, 4, UINT64_MAX, &entry->payments)
+            && number_at(text, due, line + 37, 15, UINT64_MAX, &entry->euros));
 }
 
 /* Reads the last line, and compares its CRC with that of all bytes before it. */
@@ -146,14 +165,16 @@ static bool read_crc(reading *text, const uint8_t *begin)
     return wrong(text->message, text->line, "damaged; the stored CRC is ", both);
 }
 
-/* Takes these entries, in this order, into a new book. Takes of what a book holds leave that very book (docs/RULES.md, 9.11):
-   so where it is not on this day, or an entry is refused or forgotten by a later one, there is no such book. */
+/* Takes these entries, in this order, into a new book. Takes of what a book holds leave that very book, its totals too
+   (docs/RULES.md, 9.11): so where it is not on this day, or an entry is refused or forgotten by a later one, there is no such
+   book. 53 does not occur, for the digits of the figures are few enough; nor does 51, for there are no more than 200. */
 static bool take_anew(uint64_t day, uint64_t held, const desk_entry entries[], desk_book *book, char *message)
 {
     static const char no_such[] = "no desk leaves such a book; ";
     *book = desk_book_new();
     for (uint64_t i = 0; i < held; i++) {
-        desk_taken taken = desk_book_take(*book, entries[i].number, entries[i].day);
+        const desk_entry *entry = &entries[i];
+        desk_taken taken = desk_book_take(*book, entry->number, entry->day, entry->payments, entry->euros);
         const unsigned line = LINE_OF_FIRST + (unsigned)i;
         if (taken.number == DESK_TAKEN)
             return wrong(message, line, no_such, "the number stands in an earlier line too");
@@ -169,7 +190,7 @@ static bool take_anew(uint64_t day, uint64_t held, const desk_entry entries[], d
 
 bool desk_book_read(const uint8_t *text, size_t n, desk_book *book, char message[DESK_BOOK_MESSAGE])
 {
-    reading lines = {text, text + n, 0, message};
+    reading lines = {text, text + n, 0, message, false};
     uint64_t day, held;
     desk_entry entries[DESK_BOOK_PLACES];
     desk_book found;
@@ -181,6 +202,10 @@ bool desk_book_read(const uint8_t *text, size_t n, desk_book *book, char message
     if (!read_crc(&lines, text) || !take_anew(day, held, entries, &found, message))
         return false;
     *book = found;
+    message[0] = '\0';
+    if (!lines.has_figures)
+        say(message, LINE_OF_NAME, "version 1 of the layout has no payments and euros; ",
+            "those of the files in it count as 0");
     return true;
 }
 
@@ -192,6 +217,15 @@ static uint8_t *put_line(uint8_t *place, const char *line)
     return place + length;
 }
 
+/* The same of a held number's line; null where it has payments or euros of more digits than a take passes. */
+static uint8_t *put_entry(uint8_t *place, const desk_entry *entry)
+{
+    char line[96];
+    int length = snprintf(line, sizeof line, "%020" PRIu64 " %010" PRIu32 " %04" PRIu64 " %015" PRIu64 "\n",
+                          entry->number, entry->day, entry->payments, entry->euros);
+    return length == (int)strlen(entry_form.pattern) ? put_line(place, line) : NULL;
+}
+
 size_t desk_book_write(const desk_book *book, uint8_t text[DESK_BOOK_BYTES])
 {
     uint8_t own[DESK_BOOK_BYTES], *place = own;
@@ -199,16 +233,15 @@ size_t desk_book_write(const desk_book *book, uint8_t text[DESK_BOOK_BYTES])
     desk_book back;
     if (book->held > DESK_BOOK_PLACES)
         return 0;
-    snprintf(line, sizeof line, "KAARAVIZHE BOOK 1\nDAY %010" PRIu32 "\nHELD %03" PRIu64 "\n", book->day, book->held);
+    snprintf(line, sizeof line, "KAARAVIZHE BOOK 2\nDAY %010" PRIu32 "\nHELD %03" PRIu64 "\n", book->day, book->held);
     place = put_line(place, line);
-    for (uint64_t i = 0; i < book->held; i++) {
-        snprintf(line, sizeof line, "%020" PRIu64 " %010" PRIu32 "\n", book->places[i].number, book->places[i].day);
-        place = put_line(place, line);
-    }
+    for (uint64_t i = 0; i < book->held; i++)
+        if (!(place = put_entry(place, &book->places[i])))
+            return 0;
     snprintf(line, sizeof line, "CRC %08" PRIX32 "\n", desk_crc_32(own, (size_t)(place - own)));
     place = put_line(place, line);
     const size_t bytes = (size_t)(place - own);
-    if (!desk_book_read(own, bytes, &back, message))
+    if (!desk_book_read(own, bytes, &back, message) || back.payments != book->payments || back.euros != book->euros)
         return 0;
     memcpy(text, own, bytes);
     return bytes;

@@ -64,6 +64,7 @@ enum desk_number {
     DESK_TAKEN = 50,               /* the file number is a taken one */
     DESK_BOOK_FULL = 51,           /* book: 200 numbers are held */
     DESK_EARLIER_DAY = 52,         /* book: the day is earlier than the book's */
+    DESK_LARGE_FIGURES = 53,       /* book: more than 9,999 payments, or more than 999,999,999,999,999 euros */
     DESK_OUTPUT_ROOM = 60,         /* output room shorter than the file that goes on or is restored, or than the M8 records */
     DESK_NOTE_ROOM = 61,           /* more changes in the file that goes on than note places */
     DESK_CODE_TABLE = 62,          /* the table of M8 codes is not 96 bytes */
@@ -86,14 +87,16 @@ typedef struct { uint64_t start, length; } desk_part;
 typedef struct { uint64_t own[118]; } desk_reader;
 typedef struct { desk_reader reader; desk_answer answer; } desk_read;
 
-/* A file number in a book, and the business day on which it was taken. */
-typedef struct { uint64_t number; uint32_t day; } desk_entry;
+/* A file number in a book, the business day on which it was taken, and how many payments and whole euros the file has. */
+typedef struct { uint64_t number; uint32_t day; uint64_t payments, euros; } desk_entry;
 
 /* A book of taken file numbers is a value, which may be copied and kept: the day of the last take that was not refused, how
-   many file numbers are held, and the places. The first so many hold them, in the order in which they were taken. */
+   many file numbers are held, the payments and the whole euros of all held files together, and the places. The first so many
+   hold the files, in the order in which they were taken. */
 enum { DESK_BOOK_PLACES = 200 };
-typedef struct { uint32_t day; uint64_t held; desk_entry places[DESK_BOOK_PLACES]; } desk_book;
+typedef struct { uint32_t day; uint64_t held, payments, euros; desk_entry places[DESK_BOOK_PLACES]; } desk_book;
 typedef struct { desk_book book; uint64_t number; } desk_taken; /* number: 0, or why the take is refused */
+typedef struct { uint64_t files, payments, euros; } desk_totals;
 
 /* Judges a file on page 0 (DIN 66003) without taken numbers: record * 100 + number; 0 for a sound file. For a file in ISO
    8859-1 there is desk_judge_full with page 1; here its umlauts would be read as spaces.
@@ -194,22 +197,29 @@ desk_part desk_show(const uint8_t *file, size_t n, uint64_t record, uint64_t fie
 /* The book of taken file numbers. A file's number is its Q4, Q6 and Q7 as one number (docs/RULES.md, 5.6), but any number of
    64 bits may be taken; a day is a business day, which the host counts, from 0 up to 4,294,967,295. A file number that was
    taken on a day is forgotten once the day is five or more later: one that was taken on day 7 is held on days 7 to 11, and may
-   be taken again on day 12. There are 200 places, and those of forgotten numbers are used again. A new book is on day 0 and
-   holds nothing; all its places are zeros.
+   be taken again on day 12. There are 200 places, and those of forgotten numbers are used again. With its number a file's
+   payments are taken, up to 9,999, and its whole euros, up to 999,999,999,999,999; of each the book has the total over what is
+   held on the book's day. A new book is on day 0 and holds nothing; both totals and all its places are zeros.
        desk_book book = desk_book_new();
-       desk_taken taken = desk_book_take(book, file_number, day);
+       desk_taken taken = desk_book_take(book, file_number, day, payments, euros);
        book = taken.book;
        if (taken.number != 0) ..;   refused, and the book is the very one that was handed in
    The answer is 0 where the take is accepted: the number is held, the book is on that day, what is forgotten by then is gone
-   from it, and behind the held ones are zeros. Else it is the first of these: 52, the day is earlier than the book's; 50, the
-   file number is held on that day; 51, all 200 places hold one on that day. A refused take forgets nothing and leaves the
-   day, so the next one may be on any day from the book's on. A call changes no book in place. What is taken on one of the
-   last five days is never forgotten: there is no day five later.
+   from it and from both totals, and behind the held ones are zeros. Else it is the first of these: 53, payments or euros are
+   larger; 52, the day is earlier than the book's; 50, the file number is held on that day; 51, all 200 places hold one on that
+   day. A refused take forgets nothing and leaves the day and the totals, so the next one may be on any day from the book's on.
+   A call changes no book in place. What is taken on one of the last five days is never forgotten: there is no day five later.
    Any book may be handed in, also one that no takes from a new book leave; it is read as it stands. Where held is more than
    200, all places count. Each place counts by itself, also where a number stands in two. A number whose day is later than
-   that of the take is held. Books have padding, so compare them by their fields. */
+   that of the take is held. A take does not read the totals that are handed in: after one that is accepted they are the sums
+   over the places that are held then, modulo 2^64, which matters only where places have figures that no take passes. Books
+   have padding, so compare them by their fields. */
 desk_book desk_book_new(void);
-desk_taken desk_book_take(desk_book book, uint64_t file_number, uint32_t day);
+desk_taken desk_book_take(desk_book book, uint64_t file_number, uint32_t day, uint64_t payments, uint64_t euros);
+
+/* A book's totals as they are stored in it, in held, payments and euros; nothing is added up. They are those of the book's
+   day: files that are forgotten by today count until the next take that is accepted. */
+desk_totals desk_book_totals(desk_book book);
 
 #ifdef __cplusplus
 }

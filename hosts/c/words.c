@@ -44,6 +44,7 @@ static const struct { uint64_t number; const char *words; } refusals[] = {
     {50, "judge, book: the file number (Q4, Q6, Q7) is a taken one"},
     {51, "book: 200 numbers are held"},
     {52, "book: the day is earlier than the book's"},
+    {53, "book: more than 9,999 payments, or more than 999,999,999,999,999 euros"},
     {60, "prepare, M8, restore: output room shorter than the file that goes on or is restored, or than the M8 records"},
     {61, "prepare: more changes in the file that goes on than note places"},
     {62, "M8: the code table is not 96 bytes"},

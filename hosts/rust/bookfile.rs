@@ -1,6 +1,9 @@
 //! The book of taken file numbers as text, and in a file. docs/BOOK-FILE.md has the layout; hosts/c/bookfile.c has the same.
 //! This module stands beside desk.rs, under the same parent. It is tested, not proved; what a book is, the desk decides.
 //!
+//! A book that was saved before it had payments and euros is read too. Whatever reads a book answers its `Layout`, which tells
+//! so, and a host has to hand that on.
+//!
 //! A book file is changed so that no number gets lost, where a program is killed, the disk is full, or two programs take a
 //! number at the same time:
 //! 1. `BookFile::open` makes a new file beside the book file, its path with `.new` behind it, and only then reads the book.
@@ -27,7 +30,16 @@ use std::str::{self, FromStr};
 use std::{error, fmt};
 
 /// The bytes of the longest text of a book, with all places held.
-pub const MOST_BOOK_BYTES: usize = 55 + 32 * BOOK_PLACES;
+pub const MOST_BOOK_BYTES: usize = 55 + 53 * BOOK_PLACES;
+
+/// Which layout a book was read in. What is written always has figures, the payments and the whole euros of each file.
+#[derive(Clone, Copy, Debug, PartialEq, Eq)]
+pub enum Layout {
+    /// Version 1: the figures were not recorded. They are 0 in the book, so its totals are too low.
+    WithoutFigures,
+    /// Version 2.
+    WithFigures,
+}
 
 /// Why bytes are no saved book: the line at which it shows, counted from 1, and what is wrong there.
 #[derive(Clone, Copy, Debug, PartialEq, Eq)]
@@ -97,34 +109,45 @@ pub struct WrittenBook {
 }
 
 impl Book {
-    /// The book as text, by docs/BOOK-FILE.md: 55 bytes, and 32 for each held number.
+    /// The book as text, by version 2 of docs/BOOK-FILE.md: 55 bytes, and 53 for each held number. The totals are not in it,
+    /// for they follow from what is held.
     pub fn to_text(&self) -> Vec<u8> {
-        let mut text = format!("KAARAVIZHE BOOK 1\nDAY {:010}\nHELD {:03}\n", self.day(), self.held().len());
-        for Entry { number, day } in self.held() {
-            text += &format!("{number:020} {day:010}\n");
+        let mut text = format!("KAARAVIZHE BOOK 2\nDAY {:010}\nHELD {:03}\n", self.day(), self.held().len());
+        for Entry { number, day, payments, euros } in self.held() {
+            text += &format!("{number:020} {day:010} {payments:04} {euros:015}\n");
         }
         text += &format!("CRC {:08X}\n", crc_32(text.as_bytes()));
         text.into_bytes()
     }
 
-    /// The book of which this is the text. Everything that `to_text` never gives is refused.
-    pub fn from_text(text: &[u8]) -> Result<Book, BookError> {
-        let mut lines = Lines { rest: text, line: 1 };
-        lines.name()?;
+    /// The book of which this is the text, and the layout of that. Everything that `to_text` never gives, nor gave in
+    /// version 1, is refused.
+    pub fn from_text(text: &[u8]) -> Result<(Book, Layout), BookError> {
+        let mut lines = Lines { rest: text, line: LINE_OF_NAME };
+        let layout = lines.name()?;
         let day = lines.next(&DAY, |line| number(&line[4..14]))?;
         let held = lines.next(&HELD, |line| number(&line[5..8]).filter(|&held| held <= BOOK_PLACES))?;
         let mut entries = Vec::with_capacity(held);
         for _ in 0..held {
-            let entry = |line: &[u8]| Some(Entry { number: number(&line[..20])?, day: number(&line[21..31])? });
-            entries.push(lines.next(&ENTRY, entry)?);
+            entries.push(lines.entry(layout)?);
         }
         let (crc_line, before) = (lines.line, text.len() - lines.rest.len());
         let stored = lines.next(&CRC, |line| u32::from_str_radix(str::from_utf8(&line[4..12]).ok()?, 16).ok())?;
         let found = crc_32(&text[..before]);
         match lines.rest {
-            [] if stored == found => taken_anew(day, &entries),
+            [] if stored == found => Ok((taken_anew(day, &entries)?, layout)),
             [] => Err(BookError { line: crc_line, flaw: Flaw::Damaged { stored, found } }),
             _ => Err(lines.flaw(Flaw::BytesBehind)),
+        }
+    }
+}
+
+impl Layout {
+    /// What a host has to tell of a book that was read; nothing where it has all figures.
+    pub fn notice(&self) -> Option<&'static str> {
+        match self {
+            Layout::WithoutFigures => Some(WITHOUT_FIGURES),
+            Layout::WithFigures => None,
         }
     }
 }
@@ -136,12 +159,13 @@ pub fn crc_32(bytes: &[u8]) -> u32 {
     })
 }
 
-/// The book that takes of these entries leave, in this order. Takes of what a book holds leave that very book (docs/RULES.md,
-/// 9.11): so where it is not on this day, or an entry is refused or forgotten by a later one, there is no such book.
+/// The book that takes of these entries leave, in this order. Takes of what a book holds leave that very book, its totals too
+/// (docs/RULES.md, 9.11): so where it is not on this day, or an entry is refused or forgotten by a later one, there is no such
+/// book. 53 does not occur, for the digits of the figures are few enough; nor does 51, for there are no more than 200.
 fn taken_anew(day: u32, entries: &[Entry]) -> Result<Book, BookError> {
     let mut book = Book::new();
     for (i, entry) in entries.iter().enumerate() {
-        let why = match book.take(entry.number, entry.day) {
+        let why = match book.take(entry.number, entry.day, entry.payments, entry.euros) {
             Ok(()) if book.held().len() == i + 1 => continue,
             Ok(()) => "by this day a number of an earlier line is forgotten",
             Err(Refusal { number: 50, .. }) => "the number stands in an earlier line too",
@@ -155,9 +179,12 @@ fn taken_anew(day: u32, entries: &[Entry]) -> Result<Book, BookError> {
     }
 }
 
+const LINE_OF_NAME: usize = 1;
 const LINE_OF_DAY: usize = 2;
 const LINE_OF_FIRST: usize = 4;
 const OTHER_DAY: &str = "its day is that of the last number in it, and 0 where there is none";
+const WITHOUT_FIGURES: &str =
+    "line 1: version 1 of the layout has no payments and euros; those of the files in it count as 0";
 
 /// What the first line has in front of the version.
 const NAME: &[u8] = b"KAARAVIZHE BOOK ";
@@ -171,6 +198,12 @@ struct Form {
 const DAY: Form = form(b"DAY 0000000000\n", "DAY, a space, 10 digits (at most 4294967295) and a line end (LF)");
 const HELD: Form = form(b"HELD 000\n", "HELD, a space, 3 digits (at most 200) and a line end (LF)");
 const ENTRY: Form = form(
+    b"00000000000000000000 0000000000 0000 000000000000000\n",
+    "20 digits (at most 18446744073709551615), a space, 10 digits (at most 4294967295), a space, 4 digits, a space, \
+        15 digits and a line end (LF)",
+);
+/// Of version 1.
+const ENTRY_1: Form = form(
     b"00000000000000000000 0000000000\n",
     "20 digits (at most 18446744073709551615), a space, 10 digits (at most 4294967295) and a line end (LF)",
 );
@@ -191,20 +224,35 @@ impl Lines<'_> {
         BookError { line: self.line, flaw }
     }
 
-    /// Reads the first line.
-    fn name(&mut self) -> Result<(), BookError> {
+    /// Reads the first line, which names the version.
+    fn name(&mut self) -> Result<Layout, BookError> {
         let (name, behind) = self.rest.split_at(self.rest.len().min(NAME.len()));
         let digits = behind.iter().take_while(|byte| byte.is_ascii_digit()).count();
         let (version, behind) = behind.split_at(digits);
         match (version, behind) {
             _ if !NAME.starts_with(name) => Err(self.flaw(Flaw::NotABook)),
             (_, []) => Err(self.flaw(Flaw::CutShort)),
-            (b"1", [b'\n', rest @ ..]) => {
+            (b"1" | b"2", [b'\n', rest @ ..]) => {
                 *self = Lines { rest, line: self.line + 1 };
-                Ok(())
+                Ok(if version == b"1" { Layout::WithoutFigures } else { Layout::WithFigures })
             }
             ([_, ..], [b'\n', ..]) => Err(self.flaw(Flaw::OtherVersion)),
-            _ => Err(self.flaw(Flaw::Malformed("KAARAVIZHE BOOK 1 and a line end (LF)"))),
+            _ => Err(self.flaw(Flaw::Malformed("KAARAVIZHE BOOK, a space, 1 or 2, and a line end (LF)"))),
+        }
+    }
+
+    /// Reads the line of a held number. Payments and euros have no more digits than a take passes; in version 1 they are 0.
+    fn entry(&mut self, layout: Layout) -> Result<Entry, BookError> {
+        let pair = |line: &[u8]| {
+            let (number, day) = (number(&line[..20])?, number(&line[21..31])?);
+            Some(Entry { number, day, payments: 0, euros: 0 })
+        };
+        match layout {
+            Layout::WithoutFigures => self.next(&ENTRY_1, pair),
+            Layout::WithFigures => self.next(&ENTRY, |line| {
+                let (payments, euros) = (number(&line[32..36])?, number(&line[37..52])?);
+                Some(Entry { payments, euros, ..pair(line)? })
+            }),
         }
     }
 
@@ -237,10 +285,10 @@ fn number<T: FromStr>(digits: &[u8]) -> Option<T> {
     str::from_utf8(digits).ok()?.parse().ok()
 }
 
-/// The book of a book file, to be looked at. It waits for no other program: that one's book is there as a whole, or not
-/// yet.
-pub fn read_book(path: impl AsRef<Path>) -> Result<Book, BookFileError> {
-    read(path.as_ref()).map(|(book, _)| book)
+/// The book of a book file, to be looked at, and its layout. It waits for no other program: that one's book is there as a
+/// whole, or not yet.
+pub fn read_book(path: impl AsRef<Path>) -> Result<(Book, Layout), BookFileError> {
+    read(path.as_ref()).map(|(book, layout, _)| (book, layout))
 }
 
 impl BookFile {
@@ -255,12 +303,12 @@ impl BookFile {
         Ok(BookFile { lock: Lock::new(path, false)?, book: Book::new() })
     }
 
-    /// The book of a book file, to be changed.
-    pub fn open(path: impl Into<PathBuf>) -> Result<BookFile, BookFileError> {
+    /// The book of a book file, to be changed, and the layout that the file has so far.
+    pub fn open(path: impl Into<PathBuf>) -> Result<(BookFile, Layout), BookFileError> {
         let lock = Lock::new(path.into(), true)?;
-        let (book, permissions) = read(&lock.path)?;
+        let (book, layout, permissions) = read(&lock.path)?;
         lock.new_file.set_permissions(permissions).map_err(|error| trouble(&lock.new_path, Trouble::System(error)))?;
-        Ok(BookFile { lock, book })
+        Ok((BookFile { lock, book }, layout))
     }
 
     pub fn book(&self) -> &Book {
@@ -268,8 +316,8 @@ impl BookFile {
     }
 
     /// Takes a file number, as `Book::take` does: the file does not change yet.
-    pub fn take(&mut self, number: u64, day: u32) -> Result<(), Refusal> {
-        self.book.take(number, day)
+    pub fn take(&mut self, number: u64, day: u32, payments: u64, euros: u64) -> Result<(), Refusal> {
+        self.book.take(number, day, payments, euros)
     }
 
     /// Writes the book down to the disk, beside its place.
@@ -352,8 +400,8 @@ impl Drop for Lock {
     }
 }
 
-/// The book of a regular file, and the permissions of that.
-fn read(path: &Path) -> Result<(Book, Permissions), BookFileError> {
+/// The book of a regular file, the layout of that, and its permissions.
+fn read(path: &Path) -> Result<(Book, Layout, Permissions), BookFileError> {
     let system = |error| trouble(path, Trouble::System(error));
     let metadata = fs::symlink_metadata(path).map_err(system)?;
     if !metadata.is_file() {
@@ -362,8 +410,8 @@ fn read(path: &Path) -> Result<(Book, Permissions), BookFileError> {
     let mut text = Vec::new();
     let file = File::open(path).map_err(system)?;
     file.take(MOST_BOOK_BYTES as u64 + 1).read_to_end(&mut text).map_err(system)?;
-    let book = Book::from_text(&text).map_err(|error| trouble(path, Trouble::Text(error)))?;
-    Ok((book, Permissions::from_mode(metadata.permissions().mode() & 0o777)))
+    let (book, layout) = Book::from_text(&text).map_err(|error| trouble(path, Trouble::Text(error)))?;
+    Ok((book, layout, Permissions::from_mode(metadata.permissions().mode() & 0o777)))
 }
 
 /// The directory in which a path's last name stands. The empty path is in none.
@@ -391,7 +439,7 @@ impl fmt::Display for Flaw {
     fn fmt(&self, f: &mut fmt::Formatter) -> fmt::Result {
         match self {
             Flaw::NotABook => f.write_str("not a book file"),
-            Flaw::OtherVersion => f.write_str("another version of the layout; this desk reads version 1 alone"),
+            Flaw::OtherVersion => f.write_str("another version of the layout; this desk reads versions 1 and 2"),
             Flaw::CutShort => f.write_str("the book is cut short here"),
             Flaw::Malformed(due) => write!(f, "malformed; due is {due}"),
             Flaw::BytesBehind => f.write_str("bytes behind the end of the book"),

@@ -30,12 +30,17 @@ pub type Failure = OsString;
 pub fn ended(done: Result<u8, Failure>) -> ExitCode {
     match done {
         Ok(status) => ExitCode::from(status),
-        Err(mut line) => {
-            line.push("\n");
-            let _ = io::stderr().write_all(line.as_bytes()); // where this cannot be said either, the status says it
+        Err(line) => {
+            say(line); // where this cannot be said either, the status says it
             ExitCode::from(2)
         }
     }
+}
+
+/// Says a line on standard error, where that can be written.
+pub fn say(mut line: OsString) {
+    line.push("\n");
+    let _ = io::stderr().write_all(line.as_bytes());
 }
 
 /// The page for which a word asks.

@@ -119,17 +119,28 @@ pub struct Reader {
     own: c::Reader,
 }
 
-/// A file number in a book, and the business day on which it was taken.
+/// A file number in a book, the business day on which it was taken, and how many payments and whole euros the file has.
 #[derive(Clone, Copy, Debug, PartialEq, Eq)]
 #[repr(C)]
 pub struct Entry {
     pub number: u64,
     pub day: u32,
+    pub payments: u64,
+    pub euros: u64,
+}
+
+/// What a book holds: how many files, and the payments and the whole euros of all of them together.
+#[derive(Clone, Copy, Debug, PartialEq, Eq)]
+pub struct Totals {
+    pub files: usize,
+    pub payments: u64,
+    pub euros: u64,
 }
 
 /// The book of taken file numbers, of 200 places. A number that is taken on a day is forgotten once the day is five or more
 /// later: one that was taken on day 7 is held through day 11, and may be taken again on day 12. The host counts the business
-/// days, from 0. There is no way to a book but by `new` and `take`, so a host's book is always one that takes have left.
+/// days, from 0. With its number a file's payments and whole euros are taken, and the book has the totals of what it holds.
+/// There is no way to a book but by `new` and `take`, so a host's book is always one that takes have left.
 #[derive(Clone)]
 pub struct Book {
     own: c::Book,
@@ -394,14 +405,24 @@ impl Book {
         Book { own: unsafe { c::desk_book_new() } }
     }
 
-    /// Takes a file number on a day: the book is on that day then, and what was forgotten by then is gone from it. Refused,
-    /// in this order: 52 where the day is earlier than the book's; 50 where the number is held on that day; 51 where 200
-    /// are. A refused take leaves the book as it is, its day included: it forgets nothing.
-    pub fn take(&mut self, number: u64, day: u32) -> Result<(), Refusal> {
+    /// Takes a file number on a day, with the file's payments and whole euros: the book is on that day then, and what was
+    /// forgotten by then is gone from it and from its totals. Refused, in this order: 53 where there are more than 9,999
+    /// payments, or more than 999,999,999,999,999 euros; 52 where the day is earlier than the book's; 50 where the number is
+    /// held on that day; 51 where 200 are. A refused take leaves the book as it is, its day and its totals included: it
+    /// forgets nothing.
+    pub fn take(&mut self, number: u64, day: u32, payments: u64, euros: u64) -> Result<(), Refusal> {
         // SAFETY: it takes values alone.
-        let c::Taken { book, number } = unsafe { c::desk_book_take(self.own, number, day) };
+        let c::Taken { book, number } = unsafe { c::desk_book_take(self.own, number, day, payments, euros) };
         self.own = answer(Refusal { number, record: 0, at: 0 }, book)?;
         Ok(())
+    }
+
+    /// The totals as the book has them stored; nothing is added up. They are those of the book's day: files that are
+    /// forgotten by today count until the next take that is not refused.
+    pub fn totals(&self) -> Totals {
+        // SAFETY: it takes a value alone.
+        let c::Totals { files, payments, euros } = unsafe { c::desk_book_totals(self.own) };
+        Totals { files: files as usize, payments, euros }
     }
 
     /// The day of the last take that was not refused; of a new book 0.
@@ -422,9 +443,10 @@ impl Default for Book {
     }
 }
 
+/// By day, totals and what is held. The totals follow from what is held, but they are stored, and so they are compared.
 impl PartialEq for Book {
     fn eq(&self, other: &Book) -> bool {
-        (self.day(), self.held()) == (other.day(), other.held())
+        (self.day(), self.totals(), self.held()) == (other.day(), other.totals(), other.held())
     }
 }
 
@@ -432,7 +454,8 @@ impl Eq for Book {}
 
 impl fmt::Debug for Book {
     fn fmt(&self, f: &mut fmt::Formatter) -> fmt::Result {
-        f.debug_struct("Book").field("day", &self.day()).field("held", &self.held()).finish()
+        let mut book = f.debug_struct("Book");
+        book.field("day", &self.day()).field("totals", &self.totals()).field("held", &self.held()).finish()
     }
 }
 
@@ -552,7 +575,7 @@ impl fmt::Display for Columns {
 impl error::Error for Refusal {}
 
 /// The refusals, in the words of README.md.
-const WORDS: [(u64, &str); 41] = [
+const WORDS: [(u64, &str); 42] = [
     (1, "file longer than 7,679,744 bytes (9,999 payments)"),
     (2, "file ends inside a record, or where one is due"),
     (3, "length digits wrong for the letter"),
@@ -589,6 +612,7 @@ const WORDS: [(u64, &str); 41] = [
     (50, "judge, book: the file number (Q4, Q6, Q7) is a taken one"),
     (51, "book: 200 numbers are held"),
     (52, "book: the day is earlier than the book's"),
+    (53, "book: more than 9,999 payments, or more than 999,999,999,999,999 euros"),
     (60, "prepare, M8, restore: output room shorter than the file that goes on or is restored, or than the M8 records"),
     (61, "prepare: more changes in the file that goes on than note places"),
     (62, "M8: the code table is not 96 bytes"),
@@ -751,6 +775,8 @@ mod c {
     pub struct Book {
         pub day: u32,
         pub held: u64,
+        pub payments: u64,
+        pub euros: u64,
         pub places: [Entry; BOOK_PLACES],
     }
 
@@ -758,6 +784,13 @@ mod c {
     pub struct Taken {
         pub book: Book,
         pub number: u64,
+    }
+
+    #[repr(C)]
+    pub struct Totals {
+        pub files: u64,
+        pub payments: u64,
+        pub euros: u64,
     }
 
     #[link(name = "host", kind = "static")]
@@ -859,6 +892,8 @@ mod c {
 
         pub fn desk_book_new() -> Book;
 
-        pub fn desk_book_take(book: Book, file_number: u64, day: u32) -> Taken;
+        pub fn desk_book_take(book: Book, file_number: u64, day: u32, payments: u64, euros: u64) -> Taken;
+
+        pub fn desk_book_totals(book: Book) -> Totals;
     }
 }
