@@ -15,7 +15,8 @@
 
    The totals are those of the book's day, on which the last number was taken: what would be forgotten by today counts until
    the next take. A book from before there were figures (version 1 in docs/BOOK-FILE.md) has none: they count as 0, and list,
-   totals and take say so on standard error. What take writes has version 2.
+   totals and take say so on standard error. What take writes has version 2, and of that nothing is said: until older files
+   are forgotten, list tells them with 0 payments, and the totals are without them.
 
    It loses no number, and nothing that fails changes BOOK:
    1. new makes a file where nothing is. What is there already is never replaced.
@@ -149,7 +150,7 @@ static bool read_book(const char *path, desk_book *book, mode_t *mode)
         return false;
     bool is_read = desk_book_read(text, n, book, message);
     if (message[0])
-        wrong(path, message);
+        say(path, message);
     return is_read;
 }
 

@@ -17,7 +17,8 @@ enum { DESK_BOOK_BYTES = 55 + 53 * DESK_BOOK_PLACES, DESK_BOOK_MESSAGE = 192 };
 
 /* Writes a book as text, in version 2 of the layout, and answers its bytes: 55, and 53 for each held number. The totals are
    not in it, for they follow from what is held. What was written has been read back by desk_book_read, which left the same
-   totals. Of a book that no takes leave nothing is written, and the answer is 0. */
+   totals. Of a book that no takes leave nothing is written, and the answer is 0; what stands in the places behind the held
+   ones is not looked at. */
 size_t desk_book_write(const desk_book *book, uint8_t text[DESK_BOOK_BYTES]);
 
 /* Reads the book of which this is the text, in version 2 or 1 of the layout. Everything that desk_book_write never gives, nor
@@ -25,7 +26,7 @@ size_t desk_book_write(const desk_book *book, uint8_t text[DESK_BOOK_BYTES]);
    and what is wrong there, without a line end: "line 3: the book is cut short here". A file is read up to
    DESK_BOOK_BYTES + 1 bytes, which is enough to refuse a longer one.
    Where the answer is true, message is the empty text for version 2. Version 1 has no payments and euros: those of its
-   files are 0 in the book, so its totals are too low, and message says so. A host has to tell it. */
+   files are 0 in the book, so its totals are without them, and message says so. A host has to tell it. */
 bool desk_book_read(const uint8_t *text, size_t n, desk_book *book, char message[DESK_BOOK_MESSAGE]);
 
 /* The CRC-32 of zip and gzip: reflected, polynomial 0xEDB88320. */

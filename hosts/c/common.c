@@ -51,9 +51,11 @@ bool is_path(const char *word)
     return false;
 }
 
+void say(const char *path, const char *what) { fprintf(stderr, "%s: %s\n", path, what); }
+
 bool wrong(const char *path, const char *why)
 {
-    fprintf(stderr, "%s: %s\n", path, why);
+    say(path, why);
     return false;
 }
 

@@ -38,6 +38,9 @@ bool take_page(words_left *left, uint32_t *page);
 /* Whether a word can be a path: not where it begins as an option does. */
 bool is_path(const char *word);
 
+/* Says something of a path on standard error. */
+void say(const char *path, const char *what);
+
 /* Says what is wrong with a path; always false, for the caller to hand on. */
 bool wrong(const char *path, const char *why);
 

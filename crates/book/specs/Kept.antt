@@ -25,8 +25,8 @@ modelOf b = model (b .day) (heldIn b)
 abbrev pub placesOf : List Entry → List Entry
 placesOf es = es ++ replicate (200 - length es) (entryOf 0 0 0 0)
 
--- A8: "the book holds both totals", in 64 bits each: of what takes from a new book hold they are the very sums
--- (keeping/Totals `TotalsAreSums`)
+-- A8: "the book holds both totals", in 64 bits each. After takes from a new book they are the very sums (keeping/Totals
+-- `TotalsAreSums`)
 abbrev pub bookOf : Model → Book
 bookOf m =
     record {

@@ -10,7 +10,7 @@ use borrow.Author.Tests.{leb-true, leb-false}
 use lib.Dec.{eqb, leb}
 use lib.ListN.{length, getD, take, set, replicate, length-append, length-take, length-map}
 use lib.Seq.{take-suc, take-all, take-append-seam, set-append-seam, append-snoc}
-use Rattle.laws.specs.Choice.{on-eq, off-eq, on-lt, off-lt, on-call, off-call}
+use Rattle.laws.specs.Choice.{on, off, on-eq, off-eq, on-lt, off-lt, on-call, off-call}
 use Rattle.laws.specs.Sums.{sumOf, sum-append}
 use Rattle.fields.specs.Laws.{some-append}
 use Rattle.book.specs.declared.Entry.{Entry}
@@ -22,23 +22,16 @@ use Rattle.book.specs.Kept.{entryOf, heldIn, modelOf, placesOf, bookOf, 
 abbrev pub onDay : Book → ℕ → Book
 onDay b day = bookOf (model day (heldOn day (heldIn b)))
 
-abbrev pub withEntry : Book → Entry → Book
-withEntry b e =
-    record {
-      day = b .day;
-      held = b .held + 1;
-      payments = (b .payments + e .payments) % 2 ^ 64;
-      euros = (b .euros + e .euros) % 2 ^ 64;
-      places = set (b .places) (b .held) e;
-    }
-
--- the same with totals that were added up by calls
 abbrev withTotals : Book → Entry → ℕ → ℕ → Book
 withTotals b e payments euros =
     record { day = b .day; held = b .held + 1; payments = payments; euros = euros; places = set (b .places) (b .held) e }
 
-pub totals-added : (b : Book) (e : Entry) {p q : ℕ} → p ≡ (b .payments + e .payments) % 2 ^ 64 → q ≡ (b .euros + e .euros) % 2 ^ 64
-    → withTotals b e p q ≡ withEntry b e
+abbrev pub withEntry : Book → Entry → Book
+withEntry b e = withTotals b e ((b .payments + e .payments) % 2 ^ 64) ((b .euros + e .euros) % 2 ^ 64)
+
+-- p and q are the totals as calls added them up
+pub totals-added : (b : Book) (e : Entry) {p q : ℕ} → p ≡ (b .payments + e .payments) % 2 ^ 64
+    → q ≡ (b .euros + e .euros) % 2 ^ 64 → withTotals b e p q ≡ withEntry b e
 totals-added b e p q i = withTotals b e (p i) (q i)
 
 -- a list has the length of what is made of it element by element
@@ -141,50 +134,62 @@ filled i n es long e = go (leb n 200) refl
 pub held-is : (m : Model) → heldIn (bookOf m) ≡ m .held
 held-is m = take-append-seam (m .held) (replicate (200 - length (m .held)) (entryOf 0 0 0 0))
 
+-- what is known of a take when the number was looked for: no figure is above its limit, the day is not earlier, kept is the
+-- book on that day, and found says whether it holds the number
+pub record Asked (b : Book) (e : Entry) (kept : Book) (found : Bool) : Type 0 where
+  pub small : isTooLarge e ≡ false
+  pub in-time : b .day ≤ e .day
+  pub kept-is : kept ≡ onDay b (e .day)
+  pub found-is : found ≡ holds (e .number) (heldIn kept)
+
 -- a take by what was found
 module _ (b : Book) (e : Entry) where
   by-answer : {a : ℕ} → a ≡ answerOf (modelOf b) e → answered (cond (eqb a 0) (bookOf (after (modelOf b) e)) b) a ≡ takenOf b e
   unfolding takenOf
   by-answer h = ap (λ (a : ℕ). answered (cond (eqb a 0) (bookOf (after (modelOf b) e)) b) a) h
 
-  pub too-large : {large : Bool} → large ≡ isTooLarge e → large ≡ true → answered b 53 ≡ takenOf b e
+  pub too-large : isTooLarge e ≡ true → answered b 53 ≡ takenOf b e
   unfolding answerOf
-  too-large l t = by-answer (on-call _ l t refl)
+  too-large t = by-answer (on _ t refl)
 
-  module _ {large : Bool} (l : large ≡ isTooLarge e) (small : large ≡ false) where
-    pub too-early : e .day < b .day → answered b 52 ≡ takenOf b e
+  pub too-early : isTooLarge e ≡ false → e .day < b .day → answered b 52 ≡ takenOf b e
+  unfolding answerOf
+  too-early small h = by-answer (off _ small (on-lt _ h refl))
+
+  module _ {kept : Book} {found : Bool} (a : Asked b e kept found) where
+    abbrev held : List Entry
+    held = heldOn (e .day) (heldIn b)
+
+    found-there : found ≡ holds (e .number) held
+    found-there = a .found-is ∙ ap (holds (e .number)) (ap heldIn (a .kept-is) ∙ held-is (model (e .day) held))
+
+    many : length held ≡ kept .held
+    many = sym (ap (λ (x : Book). x .held) (a .kept-is))
+
+    pub is-held : found ≡ true → answered b 50 ≡ takenOf b e
     unfolding answerOf
-    too-early h = by-answer (off-call _ l small (on-lt _ h refl))
+    is-held t = by-answer (off _ (a .small) (off-lt _ (a .in-time) (on-call _ found-there t refl)))
 
-    -- kept is the book on that day, and found whether it holds the number
-    module _ (h : b .day ≤ e .day) {kept : Book} (k : kept ≡ onDay b (e .day)) {found : Bool} (f : found ≡ holds (e .number) (heldIn kept)) where
-      on-day : heldIn kept ≡ heldOn (e .day) (heldIn b)
-      on-day = ap heldIn k ∙ held-is (model (e .day) (heldOn (e .day) (heldIn b)))
+    pub is-full : found ≡ false → kept .held ≡ 200 → answered b 51 ≡ takenOf b e
+    unfolding answerOf
+    is-full n full = by-answer (off _ (a .small) (off-lt _ (a .in-time) (off-call _ found-there n (on-eq _ (many ∙ full) refl))))
 
-      found-there : found ≡ holds (e .number) (heldOn (e .day) (heldIn b))
-      found-there = f ∙ ap (holds (e .number)) on-day
+    module _ (long : length (b .places) ≡ 200) (free : kept .held ≡ 200 → ⊥) where
+      pub has-room : kept .held < 200
+      has-room = omega (arith, free, many, held-few (e .day) (heldIn b), length-take (b .held) (b .places), long)
 
-      pub is-held : found ≡ true → answered b 50 ≡ takenOf b e
-      unfolding answerOf
-      is-held t = by-answer (off-call _ l small (off-lt _ h (on-call _ found-there t refl)))
+      -- where the number is not found
+      module _ (n : found ≡ false) where
+        is-zero : 0 ≡ answerOf (modelOf b) e
+        unfolding answerOf
+        is-zero = off _ (a .small) (off-lt _ (a .in-time) (off-call _ found-there n (off-eq _ (λ full. free (sym many ∙ full)) refl)))
 
-      many : length (heldOn (e .day) (heldIn b)) ≡ kept .held
-      many = sym (ap (λ (x : Book). x .held) k)
+        taken-book : withEntry kept e ≡ bookOf (after (modelOf b) e)
+        unfolding after
+        taken-book =
+            ap (λ (x : Book). withEntry x e) (a .kept-is)
+            ∙ with-entry (e .day) held e (omega (arith, has-room, many))
+            ∙ ap bookOf (on-eq _ (sym is-zero) refl)
 
-      pub is-full : found ≡ false → kept .held ≡ 200 → answered b 51 ≡ takenOf b e
-      unfolding answerOf
-      is-full n full = by-answer (off-call _ l small (off-lt _ h (off-call _ found-there n (on-eq _ (many ∙ full) refl))))
-
-      module _ (long : length (b .places) ≡ 200) (free : kept .held ≡ 200 → ⊥) where
-        pub has-room : kept .held < 200
-        has-room = omega (arith, free, many, held-few (e .day) (heldIn b), length-take (b .held) (b .places), long)
-
-        pub is-taken : found ≡ false → {next : Book} → next ≡ withEntry kept e → answered next 0 ≡ takenOf b e
-        unfolding answerOf after
-        is-taken n w =
-            let few : length (heldOn (e .day) (heldIn b)) < 200 = omega (arith, has-room, many) in
-            let room : length (heldOn (e .day) (heldIn b)) ≡ 200 → ⊥ = λ full. free (sym many ∙ full) in
-            let zero : 0 ≡ answerOf (modelOf b) e = off-call _ l small (off-lt _ h (off-call _ found-there n (off-eq _ room refl))) in
-            ap (λ (x : Book). answered x 0)
-            (w ∙ ap (λ (x : Book). withEntry x e) k ∙ with-entry (e .day) (heldOn (e .day) (heldIn b)) e few ∙ ap bookOf (on-eq _ (sym zero) refl))
-            ∙ by-answer zero
+        pub is-taken : {next : Book} → next ≡ withEntry kept e → answered next 0 ≡ takenOf b e
+        is-taken w = ap (λ (x : Book). answered x 0) (w ∙ taken-book) ∙ by-answer is-zero

@@ -1,6 +1,6 @@
 -- Document 02, A7 (RULES 9.11): the book of taken files "answers as a plain set of pairs of number and day would". An entry
 -- is such a pair, and so is what a take asks for: to take this number on this day. By A8 "each entry now also holds its
--- file's payments and whole euros", and so does a take.
+-- file's payments and whole euros", and a take passes them.
 use Prim.Native.Nat.{ℕ, _-_}
 use mathlib.Core.Bool.{Bool, _||_, cond}
 use mathlib.Core.List.{List, [], _∷_, _++_}
@@ -46,17 +46,27 @@ empty = model 0 []
 abbrev pub stillHeld : Model → Entry → List Entry
 stillHeld m e = heldOn (e .day) (m .held)
 
--- A8: "A take passes payments up to 9,999 and euros up to 999,999,999,999,999."
-abbrev pub isTooLarge : Entry → Bool
-isTooLarge e = ltb 9999 (e .payments) || ltb 999999999999999 (e .euros)
+-- "Refusals, in order: 52 for a day earlier than the book's, 50 for a held number after forgetting, 51 exactly when 200 are
+-- then still held." 0 is no refusal
+abbrev pub pairAnswer : Model → Entry → ℕ
+pairAnswer m e =
+    cond (ltb (e .day) (m .day)) 52
+    (cond (holds (e .number) (stillHeld m e)) 50 (cond (eqb (length (stillHeld m e)) 200) 51 0))
 
--- A8: "53 for larger figures, before 52." A7: "Refusals, in order: 52 for a day earlier than the book's, 50 for a held number
--- after forgetting, 51 exactly when 200 are then still held." 0 is no refusal
+-- A8: "A take passes payments up to 9,999 and euros up to 999,999,999,999,999."
+abbrev pub mostPayments : ℕ
+mostPayments = 9999
+
+abbrev pub mostEuros : ℕ
+mostEuros = 999999999999999
+
+-- a figure is above its limit
+abbrev pub isTooLarge : Entry → Bool
+isTooLarge e = ltb mostPayments (e .payments) || ltb mostEuros (e .euros)
+
+-- A8: "53 for larger figures, before 52"
 unfoldable pub answerOf : Model → Entry → ℕ
-answerOf m e =
-    cond (isTooLarge e) 53
-    (cond (ltb (e .day) (m .day)) 52
-    (cond (holds (e .number) (stillHeld m e)) 50 (cond (eqb (length (stillHeld m e)) 200) 51 0)))
+answerOf m e = cond (isTooLarge e) 53 (pairAnswer m e)
 
 -- "A refused call leaves the book, its day included, unchanged."
 unfoldable pub after : Model → Entry → Model

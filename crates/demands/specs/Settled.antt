@@ -3,7 +3,8 @@
 -- coincide is proved". Over the predicates that the calls' `ensures` state, and on any page, also one that does not exist.
 -- `desk_judge_full`, `desk_prepare_strict`, `desk_restore` and the three calls of a reader promise the same as the calls below
 -- them. Of prepare it is the strict way here; of the default way, and so of `desk_prepare`, see Sorting, and of M8 records, and
--- so of `desk_m8`, filing/Filing; of a book, and so of `desk_book_new` and `desk_book_take`, keeping/Keeping.
+-- so of `desk_m8`, filing/Filing; of a book, and so of `desk_book_new`, `desk_book_take` and `desk_book_totals`,
+-- keeping/Keeping and keeping/Totals.
 -- `ToldAs` is what the program's steps come to (Program `SaysOfInput`).
 use Prim.Native.Nat.{ℕ}
 use mathlib.Core.Path.{_≡_}

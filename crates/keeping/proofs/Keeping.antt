@@ -8,7 +8,7 @@ use native.Mathlib.Omega.{arith}
 use borrow.Author.Tests.{eqb-true, eqb-false, ltb-false, leb-false, lt-leb, eq-eqb}
 use lib.Dec.{eqb, ltb}
 use lib.ListN.{length}
-use Rattle.laws.specs.Choice.{on, off, on-eq, off-eq, off-lt}
+use Rattle.laws.specs.Choice.{on, off, on-eq, off-eq, off-lt, either-known, either-both}
 use Rattle.laws.specs.Steps.{fold}
 use Rattle.fields.specs.Laws.{some-append}
 use Rattle.book.specs.declared.Entry.{Entry}
@@ -74,12 +74,10 @@ module _ (m : Model) (e : Entry) where
   taken-is h = sym (on _ h refl)
 
   -- what holds where it is refused and where it is not holds after it
-  pub either-way : (P : Model → Type 0) → P m → (answerOf m e ≡ 0 → P (model (e .day) (heldOn (e .day) (m .held) ++ (e ∷ [])))) → P (after m e)
-  either-way P refused taken = go (eqb (answerOf m e) 0) refl
-    where
-      go : (b : Bool) → eqb (answerOf m e) 0 ≡ b → P (after m e)
-      go false h = subst P (sym (refused-stays h)) refused
-      go true h = subst P (sym (taken-is h)) (taken (eqb-true (answerOf m e) 0 h))
+  pub either-way : (P : Model → Type 0) → P m
+      → (answerOf m e ≡ 0 → P (model (e .day) (heldOn (e .day) (m .held) ++ (e ∷ [])))) → P (after m e)
+  unfolding after
+  either-way P refused taken = either-known P (eqb (answerOf m e) 0) (λ h. taken (eqb-true (answerOf m e) 0 h)) (λ h. refused)
 
   took-number : takenOf (bookOf m) e .number ≡ answerOf m e
   unfolding takenOf
@@ -131,26 +129,24 @@ module _ (m all : Model) (alike : Alike m all) (e : Entry) where
       go false h = off _ (ap (ltb (e .day)) (sym (alike .days)) ∙ h) (ap inner (alike .later (e .day) (ltb-false (e .day) (m .day) h)))
 
   pub still-alike : Alike (after m e) (added all e)
-  still-alike = go (eqb (answerOf m e) 0) refl
+  unfolding after
+  still-alike = either-both Alike (ap (λ (n : ℕ). eqb n 0) same-answer) taken (λ h. alike)
     where
       one : List Entry
       one = e ∷ []
 
-      go : (b : Bool) → eqb (answerOf m e) 0 ≡ b → Alike (after m e) (added all e)
-      go false h =
-          subst (λ (x : Model). Alike x (added all e)) (sym (refused-stays m e h))
-          (subst (Alike m) (off _ (ap (λ (n : ℕ). eqb n 0) (sym same-answer) ∙ h) refl) alike)
-      go true h =
+      taken : eqb (answerOf m e) 0 ≡ true
+          → Alike (model (e .day) (heldOn (e .day) (m .held) ++ one)) (model (e .day) (all .held ++ one))
+      taken h =
           let in-time : m .day ≤ e .day = accepted m e (eqb-true (answerOf m e) 0 h) .in-time in
-          subst (λ (x : Model). Alike x (added all e)) (sym (taken-is m e h))
-          (subst (Alike (model (e .day) (heldOn (e .day) (m .held) ++ one))) (on _ (ap (λ (n : ℕ). eqb n 0) (sym same-answer) ∙ h) refl)
           record {
             days = refl;
             later = λ day l.
                 held-append day (heldOn (e .day) (m .held)) one
-                ∙ ap (λ (xs : List Entry). xs ++ heldOn day one) (held-later (e .day) day l (m .held) ∙ alike .later day (omega (arith, in-time, l)))
+                ∙ ap (λ (xs : List Entry). xs ++ heldOn day one)
+                (held-later (e .day) day l (m .held) ∙ alike .later day (omega (arith, in-time, l)))
                 ∙ sym (held-append day (all .held) one);
-          })
+          }
 
 plain-from : (m all : Model) → Alike m all → (es : List Entry) → answersBy after m es ≡ answersBy added all es
 plain-from m all alike [] = refl

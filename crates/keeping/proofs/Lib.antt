@@ -2,3 +2,4 @@ pub mod Forgetting
 pub mod Keeping
 pub mod Rebuilding
 pub mod Totals
+pub mod ByPairs

@@ -13,7 +13,7 @@ use Rattle.book.specs.declared.Book.{Book}
 use Rattle.book.specs.Model.{Model, model, empty, isForgotten, heldOn, holds, isTooLarge, answerOf, after}
 use Rattle.book.specs.Kept.{heldIn, bookOf}
 use Rattle.book.specs.Laws.{held-append, held-few, held-is}
-use Rattle.keeping.specs.Keeping.{Takes, answersBy, TakesRebuild}
+use Rattle.keeping.specs.Keeping.{answersBy, TakesRebuild}
 use Rattle.keeping.proofs.Forgetting.{held-later, held-turned, holds-not}
 use Rattle.keeping.proofs.Keeping.{accepted, either-way, all-takes}
 
@@ -137,14 +137,17 @@ module _ (m : Model) (e : Entry) (r : Reached m) where
         last = last-more 0 kept e;
       })
 
-pub reached-all : (m : Model) (es : List Entry) → Reached m → Reached (fold after m es)
+reached-all : (m : Model) (es : List Entry) → Reached m → Reached (fold after m es)
 reached-all m [] r = r
 reached-all m (e ∷ es) r = reached-all (after m e) es (reaches m e r)
+
+pub reached : (es : List Entry) → Reached (fold after empty es)
+reached es = reached-all empty es record { runs = tt; last = refl }
 
 pub takes-rebuild : TakesRebuild
 takes-rebuild es answers last t others again u =
     let m = fold after empty es in
-    let r = reached-all empty es record { runs = tt; last = refl } in
+    let r = reached es in
     let is = all-takes es answers last t .1 in
     let held : heldIn last ≡ m .held = ap heldIn is ∙ held-is m in
     let many : last .held ≡ length (m .held) = ap (λ (b : Book). b .held) is in

@@ -47,8 +47,8 @@ abbrev pub AnswersAsPlainSet : Type 0
 AnswersAsPlainSet = (es : List Entry) (answers : List ℕ) (last : Book) → Takes es answers last → answers ≡ answersBy added empty es
 
 -- "a number is taken on a business day [..] and forgotten once the day is five or more later": whatever book was handed in,
--- where the next take is of the same number, on that day or later, and passes no larger figures, it answers 50 up to the
--- fourth day after, and from the fifth on no more
+-- where the next take is of the same number, on that day or later, and no figure of it is above its limit, it answers 50 up
+-- to the fourth day after, and from the fifth on no more
 abbrev pub HeldFiveDays : Type 0
 HeldFiveDays =
     (b : Book) (e later : Entry) (taken again : Taken) → TakenAs b e taken → taken .number ≡ 0 → later .number ≡ e .number

@@ -81,3 +81,20 @@ both false b e = let z : false ≡ true = e in (z, cc)
 pub either : {A : Type 0} (P : A → Type 0) (b : Bool) (x y : A) → P x → P y → P (cond b x y)
 either P true x y p q = p
 either P false x y p q = q
+
+-- the same with what is known on each side
+pub either-known : {A : Type 0} (P : A → Type 0) (b : Bool) {x y : A} → (b ≡ true → P x) → (b ≡ false → P y) → P (cond b x y)
+either-known {A} P b {x} {y} p q = go b refl
+  where
+    go : (t : Bool) → b ≡ t → P (cond t x y)
+    go true h = p h
+    go false h = q h
+
+-- and of two choices by tests that answer alike
+pub either-both : {A B : Type 0} (P : A → B → Type 0) {b c : Bool} {x u : A} {y v : B} → b ≡ c → (b ≡ true → P x y)
+    → (b ≡ false → P u v) → P (cond b x u) (cond c y v)
+either-both {A} {B} P {b} {c} {x} {u} {y} {v} e p q = subst (λ (t : Bool). P (cond b x u) (cond t y v)) e (go b refl)
+  where
+    go : (t : Bool) → b ≡ t → P (cond t x u) (cond t y v)
+    go true h = p h
+    go false h = q h
