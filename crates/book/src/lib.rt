@@ -1,4 +1,5 @@
 // The book of taken files. A book is a value: it is handed in with each take, and comes back with the answer.
+use std::num::wrapping_add_u64;
 ghost use mathlib.Core.Path.{_≡_};
 ghost use mathlib.Core.List.{[]};
 ghost use Prim.Native.Nat.{_<_, min};
@@ -6,7 +7,6 @@ ghost use lib.ListN.{take};
 ghost use Rattle.book.specs.Model.{model, isForgotten, isTooLarge, holds};
 ghost use Rattle.book.specs.Kept.{entryOf, bookOf, answered, NewBookAs, TakenAs, TotalsAs};
 ghost use Rattle.book.specs.Laws.{onDay, withEntry};
-use std::num::wrapping_add_u64;
 
 const PLACES: usize = 200;
 
@@ -99,7 +99,8 @@ impl Book {
         Self::empty(0)
     }
 
-    // One more entry, in the place behind those that are held.
+    // One more entry, in the place behind those that are held. The sums wrap, as the totals do of a book with figures that no
+    // take passes.
     fn with(mut self, entry: Entry) -> Self
         requires { ⌜ self .held < 200 ⌝ }
         ensures { λ r. ⌜ r ≡ withEntry self entry ⌝ }
@@ -164,7 +165,7 @@ impl Book {
     pub fn take(self, number: u64, day: u32, payments: u64, euros: u64) -> Taken
         ensures { λ r. ⌜ TakenAs self (entryOf number day payments euros) r ⌝ }
     {
-        let today = self.day;
+        let book_day = self.day;
         let entry = Entry {
             number,
             day,
@@ -174,7 +175,7 @@ impl Book {
         if is_too_large(entry) {
             return answer(self, 53);
         }
-        if day < today {
+        if day < book_day {
             return answer(self, 52);
         }
         let kept = self.on(day);
