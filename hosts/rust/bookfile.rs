@@ -35,7 +35,7 @@ pub const MOST_BOOK_BYTES: usize = 55 + 53 * BOOK_PLACES;
 /// Which layout a book was read in. What is written always has figures, the payments and the whole euros of each file.
 #[derive(Clone, Copy, Debug, PartialEq, Eq)]
 pub enum Layout {
-    /// Version 1: the figures were not recorded. They are 0 in the book, so its totals are too low.
+    /// Version 1: the figures were not recorded. They are 0 in the book, so its totals are without them.
     WithoutFigures,
     /// Version 2.
     WithFigures,

@@ -65,11 +65,11 @@ module _ (m : Model) (e : Entry) where
 
 -- a take of the book of a model
 module _ (m : Model) (e : Entry) where
-  pub refused-stays : eqb (answerOf m e) 0 ≡ false → after m e ≡ m
+  refused-stays : eqb (answerOf m e) 0 ≡ false → after m e ≡ m
   unfolding after
   refused-stays h = sym (off _ h refl)
 
-  pub taken-is : eqb (answerOf m e) 0 ≡ true → after m e ≡ model (e .day) (heldOn (e .day) (m .held) ++ (e ∷ []))
+  taken-is : eqb (answerOf m e) 0 ≡ true → after m e ≡ model (e .day) (heldOn (e .day) (m .held) ++ (e ∷ []))
   unfolding after
   taken-is h = sym (on _ h refl)
 

@@ -21,6 +21,7 @@ use Rattle.keeping.proofs.Forgetting.{held-later}
 use Rattle.keeping.proofs.Keeping.{either-way, all-takes, Alike, still-alike}
 use Rattle.keeping.proofs.Rebuilding.{with, Runs, runs-few, Reached, reached}
 
+-- what a take passes
 figures : (e : Entry) → isTooLarge e ≡ false → (e .payments ≤ mostPayments) × (e .euros ≤ mostEuros)
 figures e small = go (ltb mostPayments (e .payments)) refl small
   where
