@@ -611,7 +611,7 @@ fn permissions_stay() {
     }
 }
 
-/// The functions of hosts/c/bookfile.h.
+/// The functions of hosts/c/desk.h.
 mod c {
     use super::{row, Entry, Row, Rows, MOST_BOOK_BYTES};
     use std::{ffi::CStr, os::raw::c_char};

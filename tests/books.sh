@@ -2,13 +2,8 @@
 # printed and written is by docs/RULES.md and docs/BOOK-FILE.md; each CRC is gzip's.
 books=target/tests/books
 
-# tells TEXT STATUS COMMAND..: the command ends with that status and prints that text, and nothing on standard error
-tells() {
-    echo "$1" >target/tests/told
-    held "'${1%%$'\n'*}'" target/tests/told "$2" out "${@:3}"
-}
-
-# tells_and_says TEXT LINE STATUS COMMAND..: the same, and it says that line on standard error
+# tells_and_says TEXT LINE STATUS COMMAND..: the command ends with that status, prints that text, and says that line on
+# standard error
 tells_and_says() {
     lines "$1" "$2" >target/tests/told
     held "'$2'" target/tests/told "$3" both "${@:4}"
@@ -101,7 +96,7 @@ taken() {
 # refused DAY NUMBER [LINE..]: what it tells of one that is not taken on that day
 refused() {
     local words
-    words=$(sed -n "s/^| $2 | \(.*\) |\$/\1/p" README.md)
+    words=$(sed -n "s/^| $2 | \([^|]*\) | .* |\$/\1/p" docs/WORDS.md)
     lines "refused on day $1: number $2: $words" "${@:3}"
 }
 

@@ -1,4 +1,4 @@
-# What tests/programs and tests/hosts share. Read by them in the folder of the repository, after tests/x86-64.sh.
+# What tests/programs, tests/hosts and tests/release share. Read by them in the folder of the repository, after tests/x86-64.sh.
 failed=0
 mkdir -p target/tests
 out=target/tests/out
@@ -17,7 +17,13 @@ says() {
     held "'$1'" target/tests/line "$2" err "${@:3}"
 }
 
-# held NAME FILE STATUS STREAM COMMAND..: what check and says have in common; the file is what has to be printed
+# tells TEXT STATUS COMMAND..: the command ends with that status and prints that text, and nothing on standard error
+tells() {
+    echo "$1" >target/tests/told
+    held "'${1%%$'\n'*}'" target/tests/told "$2" out "${@:3}"
+}
+
+# held NAME FILE STATUS STREAM COMMAND..: what these three have in common; the file is what has to be printed
 held() {
     local name=$1 due=$2 status=$3 stream=$4 printed=$out silent=$err got=0 wrong=
     shift 4

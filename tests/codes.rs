@@ -61,7 +61,7 @@ fn rules_of_each_code() {
     }
 }
 
-/// The tables of hosts/c/codes.h.
+/// The tables of hosts/c/desk.h.
 mod c {
     use std::{ffi::CStr, os::raw::c_char};
 

@@ -1,5 +1,6 @@
 //! Tests of hosts/rust/desk.rs on the samples: each call and the ways in which it answers.
 
+#[allow(dead_code)] // the annexes are held by tests/annexes.rs, the version by tests/release
 #[path = "../hosts/rust/desk.rs"]
 mod desk;
 

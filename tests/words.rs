@@ -1,5 +1,5 @@
-//! Tests of what hosts/rust/desk.rs and hosts/c/words.c both have: the refusals' words, held to README.md, the fields'
-//! columns, held to the places of crates/records, and a refusal in one line.
+//! Tests of what hosts/rust/desk.rs and hosts/c/words.c both have: the refusals' words, held to docs/WORDS.md, the fields'
+//! columns, held to the places of crates/records, and a refusal in one line; and that docs/WORDS.md has all fields.
 
 #[allow(dead_code)] // no call is made here
 #[path = "../hosts/rust/desk.rs"]
@@ -8,23 +8,40 @@ mod desk;
 use desk::{Columns, Refusal};
 use std::collections::HashMap;
 
-/// README.md's table: the words of each number.
-fn readme() -> HashMap<u64, &'static str> {
-    let rows = include_str!("../README.md").lines().filter_map(|row| {
-        let (number, words) = row.strip_prefix("| ")?.strip_suffix(" |")?.split_once(" | ")?;
-        Some((number.parse().ok()?, words))
-    });
-    rows.collect()
+/// The cells of the table that begins with this row, row by row.
+fn table(page: &'static str, heading: &str) -> Vec<Vec<&'static str>> {
+    let rows = page.lines().skip_while(|row| *row != heading).skip(2);
+    let cells = rows.map_while(|row| Some(row.strip_prefix("| ")?.strip_suffix(" |")?.split(" | ").collect()));
+    cells.collect()
+}
+
+const WORDS: &str = include_str!("../docs/WORDS.md");
+
+/// The English words of each number.
+fn english() -> HashMap<u64, &'static str> {
+    let rows = table(WORDS, "| No. | English | German |");
+    rows.iter().map(|cells| (cells[0].parse().unwrap(), cells[1])).collect()
 }
 
 #[test]
 fn words() {
-    let readme = readme();
-    assert_eq!(readme.len(), 42);
+    let english = english();
+    assert_eq!(english.len(), 42);
     for number in 0..=100 {
-        let words = readme.get(&number).copied().unwrap_or("no rule of the desk");
+        let words = english.get(&number).copied().unwrap_or("no rule of the desk");
         assert_eq!(Refusal { number, record: 0, at: 0 }.words(), words, "{number}");
         assert_eq!(c::words(number), words, "{number}");
+    }
+}
+
+/// docs/WORDS.md has each field, in its order, and both languages of everything.
+#[test]
+fn both_languages() {
+    let fields = table(WORDS, "| Field | English | German |");
+    let names: Vec<_> = fields.iter().map(|cells| cells[0]).collect();
+    assert_eq!(names, places().iter().map(|row| row.field).collect::<Vec<_>>());
+    for cells in fields.iter().chain(&table(WORDS, "| No. | English | German |")) {
+        assert!(cells.len() == 3 && cells.iter().all(|cell| !cell.trim().is_empty()), "{}", cells[0]);
     }
 }
 
@@ -76,6 +93,10 @@ fn fields_and_columns() {
     let places = places();
     assert_eq!(places.len(), 43);
     for kind in ['Q', 'T', 'Z', 'X', '\0'] {
+        let own: Vec<_> = places.iter().copied().filter(|row| row.field.starts_with(kind)).collect();
+        assert_eq!(desk::fields(kind).collect::<Vec<_>>(), own, "{kind}");
+        assert_eq!((0..).map_while(|index| c::field(kind, index)).collect::<Vec<_>>(), own, "{kind}");
+        assert_eq!(c::field(kind, usize::MAX), None, "{kind}");
         for offset in (0..1000).chain([u64::MAX]) {
             let column = offset.saturating_add(1);
             let holds = |row: &Columns| row.field.starts_with(kind) && (row.first..=row.last).contains(&column);
@@ -117,7 +138,7 @@ fn lines() {
     assert_eq!(c::line(26, u64::MAX, 64), longest.to_string());
 }
 
-/// The functions of hosts/c/words.h.
+/// The functions of hosts/c/desk.h.
 mod c {
     use super::Columns;
     use std::{ffi::CStr, os::raw::c_char};
@@ -134,6 +155,7 @@ mod c {
     extern "C" {
         fn desk_words(number: u64) -> *const c_char;
         fn desk_kind(number: u64) -> c_char;
+        fn desk_field(kind: c_char, index: usize) -> *const Found;
         fn desk_columns_at(kind: c_char, offset: u64) -> *const Found;
         fn desk_refusal_line(line: *mut c_char, number: u64, record: u64, at: u64);
     }
@@ -149,9 +171,19 @@ mod c {
         (kind != 0).then_some(kind as u8 as char)
     }
 
+    pub fn field(kind: char, index: usize) -> Option<Columns> {
+        // SAFETY: it takes numbers alone.
+        columns(unsafe { desk_field(kind as c_char, index) })
+    }
+
     pub fn columns_at(kind: char, offset: u64) -> Option<Columns> {
+        // SAFETY: it takes numbers alone.
+        columns(unsafe { desk_columns_at(kind as c_char, offset) })
+    }
+
+    fn columns(found: *const Found) -> Option<Columns> {
         // SAFETY: it is null, or a constant row with a constant text.
-        let found = unsafe { desk_columns_at(kind as c_char, offset).as_ref() }?;
+        let found = unsafe { found.as_ref() }?;
         let field = unsafe { CStr::from_ptr(found.field) }.to_str().unwrap();
         Some(Columns { field, first: found.first, last: found.last })
     }

@@ -34,9 +34,9 @@ else
     command -v x86_64-linux-gnu-gcc >/dev/null || quietly install_packages gcc-x86-64-linux-gnu libc6-dev-amd64-cross
 fi
 
-# The library, proved.
+# The library, of proved calls.
 library() {
-    quietly rt staticlib host
+    quietly bash hosts/library
 }
 
 # build NAME SOURCE..: target/tests/NAME over the library
@@ -44,7 +44,7 @@ build() {
     local name=$1
     shift
     # shellcheck disable=SC2086
-    $compiler $flags "$@" target/staticlib/libhost.a -o "target/tests/$name"
+    $compiler $flags "$@" target/library/libdesk.a -o "target/tests/$name"
 }
 
 # build_rust NAME SOURCE [FLAG..]: target/tests/NAME over the library
@@ -61,5 +61,5 @@ build_rust() {
             quietly install_packages rustc libstd-rust-dev:amd64
         fi
     fi
-    $rustc --edition 2021 -O -D warnings -L target/staticlib "$@" -o "target/tests/$name"
+    $rustc --edition 2021 -O -D warnings -L target/library "$@" -o "target/tests/$name"
 }

@@ -34,10 +34,8 @@
 
    Status 0: done; 1: FILE is refused, or its number is; 2: used wrongly, or something could not be read or written. */
 #define _POSIX_C_SOURCE 200809L
-#include "bookfile.h"
 #include "common.h"
 #include "desk.h"
-#include "words.h"
 
 #include <errno.h>
 #include <fcntl.h>
@@ -51,8 +49,8 @@
 #include <unistd.h>
 
 /* A file that is longer than any sound one fills the last place too, and is refused. */
-static uint8_t file[MOST + 1], forwarded[MOST + 1];
-static uint32_t notes[MOST], returned[PAYMENTS];
+static uint8_t file[DESK_MOST_BYTES + 1], forwarded[DESK_MOST_BYTES + 1];
+static uint32_t notes[MOST_NOTES], returned[MOST_RETURNED];
 
 /* The status to end with, where nothing failed. */
 enum { DONE = 0, REFUSED = 1 };
@@ -258,14 +256,14 @@ static int take_number(const char *path, const desk_entry *asked, uint32_t page,
 /* Takes the number of a file, if something of it goes on: the status to end with. */
 static int take_file(uint32_t page, const char *book_path, uint32_t day, const char *path)
 {
-    static const uint64_t none_taken[1];
     desk_entry asked = {.day = day};
     size_t n;
     if (!read_file(path, file, sizeof file, &n))
         return FAILED;
-    desk_prepared sent = desk_prepare(page, file, n, LISTS, forwarded, sizeof forwarded, notes, MOST, returned, PAYMENTS);
+    desk_prepared sent = desk_prepare(page, file, n, DESK_ANNEXES, forwarded, sizeof forwarded, notes, MOST_NOTES,
+                                      returned, MOST_RETURNED);
     if (sent.number) {
-        desk_judgement judged = desk_judge_full(page, file, n, LISTS, none_taken, 0);
+        desk_judgement judged = desk_judge_full(page, file, n, DESK_ANNEXES, NULL, 0);
         tell_refusal(page, &sent, &judged);
         return is_printed() ? REFUSED : FAILED;
     }

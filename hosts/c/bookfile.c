@@ -1,4 +1,4 @@
-#include "bookfile.h"
+#include "desk.h"
 
 #include <inttypes.h>
 #include <stdio.h>
@@ -190,6 +190,9 @@ static bool take_anew(uint64_t day, uint64_t held, const desk_entry entries[], d
 
 bool desk_book_read(const uint8_t *text, size_t n, desk_book *book, char message[DESK_BOOK_MESSAGE])
 {
+    static const uint8_t none[1];
+    if (n == 0)
+        text = none; /* it may be null */
     reading lines = {text, text + n, 0, message, false};
     uint64_t day, held;
     desk_entry entries[DESK_BOOK_PLACES];

@@ -1,4 +1,4 @@
-#include "codes.h"
+#include "desk.h"
 
 #include <string.h>
 

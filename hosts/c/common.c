@@ -1,19 +1,11 @@
 #define _POSIX_C_SOURCE 200809L
 #include "common.h"
-#include "words.h"
 
 #include <errno.h>
 #include <stdlib.h>
 #include <string.h>
 #include <sys/stat.h>
 #include <unistd.h>
-
-const uint8_t transfer_list[] =
-    "AFEGALDZAOAGGQARAMAWAZETAUBSBHBDBBBZBMBTBOBABWBRBNBIKYCLCNCRCWDODJCISVECERSZFKFOFJPFGAGMGEGHGIGLGBGTGGGNGYHTHNHK"
-    "INIDIQIMILJMJPYEJEJOKHCMCACVKZQAKEKGCOCDXKKWLALSLBLYMOMGMWMYMVMLMAMUMXMDMNMEMZNANPNZNIANNENGMKOMPKPWPAPGPYPEPHPR"
-    "CGRWRUSBZMWSSASNRSSCSLZWSGSOSJLKSHKNZAKRSSSRTJTWTZTHTGTOTTTDTNTRTMTCUGUAUYUSUZVUAEVNBYCF";
-const uint8_t cheque_list[] = "ARBOBRCLCRDOSVECGTGBHNCACOMXNIPAPYPEPRUYUSVE";
-const size_t transfer_bytes = sizeof transfer_list - 1, cheque_bytes = sizeof cheque_list - 1;
 
 const char *const page_names[2] = {
     [DESK_DIN_66003] = "page 0 (DIN 66003)",

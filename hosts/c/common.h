@@ -1,24 +1,21 @@
-/* What the example hosts have in common: the country lists, the page and the paths that their words name, files as they are
-   read and written, and how they tell what they find, and what they cannot do. Whatever cannot be done is said on standard
+/* What the example hosts have in common: the page and the paths that their words name, files as they are read and written,
+   and how they tell what they find, and what they cannot do. Whatever cannot be done is said on standard
    error, in one line; a function that answers bool has said so where it answers false. */
 #ifndef DESK_COMMON_H
 #define DESK_COMMON_H
 
 #include "desk.h"
 
-#include <stdbool.h>
 #include <stdio.h>
 
-/* The bytes of the longest file, and of the records; the payments of the longest file. */
-enum { MOST = 7679744, Q = 256, T = 768, Z = 256, PAYMENTS = (MOST - Q - Z) / T };
+/* The bytes of the records. */
+enum { Q = 256, T = 768, Z = 256 };
+
+/* Places for the notes and the returned list of any file. */
+enum { MOST_NOTES = DESK_NOTE_PLACES(DESK_MOST_BYTES), MOST_RETURNED = DESK_RETURNED_PLACES(DESK_MOST_BYTES) };
 
 /* The status to end with where something failed. */
 enum { FAILED = 2 };
-
-/* Annex II and Annex I of source document 000, as the calls take them. */
-extern const uint8_t transfer_list[], cheque_list[];
-extern const size_t transfer_bytes, cheque_bytes;
-#define LISTS transfer_list, transfer_bytes, cheque_list, cheque_bytes
 
 /* The names of the pages. */
 extern const char *const page_names[2];

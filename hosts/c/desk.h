@@ -1,22 +1,58 @@
-/* The desk's calls for hosts written in C. They are proved to meet the definitions that state the rules of docs/RULES.md;
-   libhost.a has them for x86-64 (`rt staticlib host` writes target/staticlib/libhost.a).
+/* The desk's library for hosts written in C, and for whatever can call C. It comes as libdesk.a and as libdesk.so, for x86-64:
+   `bash hosts/library` writes both to target/library; a release has them in lib, and the papers that are named here in
+   share/doc/kaaravizhe. This header is all of it. Behind the version and the sizes it has two parts: first the calls, which
+   are proved to meet the definitions that state the rules of docs/RULES.md; then tables and texts, which are tested and not
+   proved.
 
-   Lent memory passes as a pointer and a count of elements. A pointer is never null; where its count is 0, nothing is
-   read or written through it. What is lent for writing (out, notes, returned) overlaps nothing else that is lent. Any
-   bytes, any country lists, any room and any page number may be handed in: every call ends with an answer or a numbered
-   refusal, and a refused call changes no byte that it was lent.
+   Lent memory passes as a pointer and a count of elements. Where the count is 0 the pointer may be null: nothing is read or
+   written through it. What is lent for writing (out, notes, returned) overlaps nothing else that is lent. Any bytes, any
+   country lists, any room and any page number may be handed in: every call ends with an answer or a numbered refusal, and a
+   refused call changes no byte that it was lent.
+
+   Threads: no function here keeps anything or has a state of its own, so any number of threads may call any of them at the
+   same time. While a call runs, nobody else writes to what it was lent, and what it was lent for writing nobody else reads
+   either.
 
    The page says at which codes the office writes the four German characters. Restore needs the page and the country lists
    that prepare had; with others it may refuse the pair. So store the page with the forwarded file and its notes. */
 #ifndef DESK_H
 #define DESK_H
 
+#include <stdbool.h>
 #include <stddef.h>
 #include <stdint.h>
 
 #ifdef __cplusplus
 extern "C" {
 #endif
+
+/* The version that this header is of. CHANGELOG.md tells what each has changed: where the second number is another one, a host
+   is compiled anew. */
+#define DESK_VERSION "4.9.0"
+
+/* The version that the library is of; it lives as long as the program. A host that loads libdesk.so may compare the two. */
+const char *desk_version(void);
+
+/* The largest file that rule 1 lets pass, in bytes, and its payments. */
+#define DESK_MOST_BYTES 7679744
+#define DESK_MOST_PAYMENTS 9999
+
+/* Rooms that are always sufficient, for a file of n bytes: with these no call answers 60, 61 or 63. A file that goes on has
+   256 bytes for Q, 768 for each payment and 256 for Z, so n / 768 are its payments; and of a file that does not, nothing is
+   written.
+   - output bytes of desk_prepare and desk_prepare_strict: what goes on is the file, or shorter by what comes back;
+   - note places: only text changes, of which Q has 140 bytes (Q5) and a payment 553 (T8, T9b, T10b, T12, T15, T20, T23, T24).
+     A file of cheques may have as many changes; a transfer has one fewer, for the / before its account stays;
+   - places of the returned list, and the bytes of desk_m8's records: for each payment. One has to go on, so one place, or 124
+     bytes, are left;
+   - output bytes of desk_restore, where n is the length of the forwarded file: what is restored is as long. */
+#define DESK_OUTPUT_BYTES(n) (n)
+#define DESK_NOTE_PLACES(n) (140 + (n) / 768 * 553)
+#define DESK_RETURNED_PLACES(n) ((n) / 768)
+#define DESK_M8_BYTES(n) ((n) / 768 * DESK_M8_RECORD)
+#define DESK_RESTORED_BYTES(n) (n)
+
+/* ---- The calls: proved --------------------------------------------------------------------------- */
 
 /* Code pages (docs/RULES.md, 3.1): where the umlauts of A, O and U and the sharp s stand, which become A, O, U and S. Any
    other number is refused with 7. */
@@ -107,8 +143,8 @@ uint64_t desk_judge(const uint8_t *file, size_t n,
 /* Judges a file, also by the taken file numbers; a file's number is its Q4, Q6 and Q7 as one number (docs/RULES.md, 5.6).
    Number 0: record and at 0, with the number of payments, the sum of their whole euros and the sum of their cents, which
    are not carried. Refused: the first broken rule, its record, at, and three zeros. at is the offset, in that record, of
-   the lowest-placed field that breaks the rule (words.h has its name and columns); it is 0 for rules 1 to 5. For 7, which
-   comes before every other number, and for 50, which comes after, record and at are 0. */
+   the lowest-placed field that breaks the rule (desk_columns_at has its name and columns); it is 0 for rules 1 to 5. For 7,
+   which comes before every other number, and for 50, which comes after, record and at are 0. */
 desk_judgement desk_judge_full(uint32_t page, const uint8_t *file, size_t n,
                                const uint8_t *transfer, size_t nt, const uint8_t *cheque, size_t nc,
                                const uint64_t *taken, size_t taken_n);
@@ -168,7 +204,7 @@ enum { DESK_M8_RECORD = 124, DESK_M8_CODES = 96 };
 
 /* Writes an M8 record of 124 bytes for each payment that desk_prepare returns, on the same page and with the same lists: the
    i-th record is that of the i-th number in its list. codes has six bytes for each rule from 20 to 35, in that order: 96
-   bytes. desk_m8_codes (codes.h) is such a table: codes of the receiver's list, by the desk's reading of it.
+   bytes. desk_m8_codes is such a table: codes of the receiver's list, by the desk's reading of it.
    Number 0: out begins with the records, and the rest keeps its bytes; count tells how many, which may be 0. 124 bytes for
    each payment that desk_prepare returns are room enough, and so are 1,239,752 bytes always: one payment has to go on, so at
    most 9,998 come back.
@@ -220,6 +256,74 @@ desk_taken desk_book_take(desk_book book, uint64_t file_number, uint32_t day, ui
 /* A book's totals as they are stored in it, in held, payments and euros; nothing is added up. They are those of the book's
    day: files that are forgotten by today count until the next take that is accepted. */
 desk_totals desk_book_totals(desk_book book);
+
+/* ---- Tables and texts: tested, not proved -------------------------------------------------------- */
+
+/* The receiver's Annex II, the countries of transfers, and Annex I, those of cheques, as the calls take them: 156 and 22, two
+   bytes each, in the order of docs/DIFFERENCES.md. A host may lend other lists. DESK_ANNEXES stands for four arguments:
+       desk_judge_full(DESK_ISO_8859_1, file, n, DESK_ANNEXES, NULL, 0) */
+enum { DESK_TRANSFER_BYTES = 312, DESK_CHEQUE_BYTES = 44 };
+extern const uint8_t desk_transfer_countries[DESK_TRANSFER_BYTES];
+extern const uint8_t desk_cheque_countries[DESK_CHEQUE_BYTES];
+#define DESK_ANNEXES desk_transfer_countries, DESK_TRANSFER_BYTES, desk_cheque_countries, DESK_CHEQUE_BYTES
+
+/* A table of codes to lend to desk_m8: six bytes for each rule from 20 to 35, in that order. The receiver's specification
+   lists the codes and nowhere says which belongs to which rule: the desk's reading of it stands in docs/M8-CODES.md, with the
+   reasons. A host may lend a table of its own. */
+extern const uint8_t desk_m8_codes[DESK_M8_CODES];
+
+/* What a code means in the receiver's list, in English; code has six bytes. Null for those of recalls, which begin with RR,
+   and for one that is not in the list. */
+const char *desk_m8_meaning(const uint8_t *code);
+
+/* When a rule is broken, or why else a call is refused. Of any other number, 0 among them, "no rule of the desk". */
+const char *desk_words(uint64_t number);
+
+/* The kind of record that breaks a rule: 'Q' for 10 to 16, 'T' for 20 to 35, 'Z' for 40 to 42; 0 for any other number. */
+char desk_kind(uint64_t number);
+
+/* A field's name, and its columns as a clerk counts them: from 1, and the last is included. */
+typedef struct { const char *field; uint64_t first, last; } desk_columns;
+
+/* The fields of a record of kind 'Q', 'T' or 'Z', in their order: index counts from 0. Null behind the last one. */
+const desk_columns *desk_field(char kind, size_t index);
+
+/* The field of such a record in which an offset lies. Null where it lies in none: in the length digits, in the letter, or
+   beyond the record. */
+const desk_columns *desk_columns_at(char kind, uint64_t offset);
+
+/* A refusal in one line, without a line end: "rule 15 at record 0, Q9, column 178: Q9 is not N". A number that is no rule
+   of a file (7, and 43 to 70) has no record there. Only desk_judge_full and desk_reader_end tell at; with 0 in its place no
+   field is told. */
+enum { DESK_LINE = 256 };
+void desk_refusal_line(char line[DESK_LINE], uint64_t number, uint64_t record, uint64_t at);
+
+/* The book of taken file numbers as text, to be kept in a file: docs/BOOK-FILE.md has the layout. How a book file is changed
+   so that no number gets lost, the example host hosts/c/book.c shows. These are the bytes of the longest text of a book, with
+   all places held; and of a message, with its end. */
+enum { DESK_BOOK_BYTES = 55 + 53 * DESK_BOOK_PLACES, DESK_BOOK_MESSAGE = 192 };
+
+/* Writes a book as text, in version 2 of the layout, and answers its bytes: 55, and 53 for each held number. The totals are
+   not in it, for they follow from what is held. What was written has been read back by desk_book_read, which left the same
+   totals. Of a book that no takes leave nothing is written, and the answer is 0; what stands in the places behind the held
+   ones is not looked at. */
+size_t desk_book_write(const desk_book *book, uint8_t text[DESK_BOOK_BYTES]);
+
+/* Reads the book of which this is the text, in version 2 or 1 of the layout. Everything that desk_book_write never gives, nor
+   gave in version 1, is refused: then the answer is false, the book keeps its value, and message says in which line it shows
+   and what is wrong there, without a line end: "line 3: the book is cut short here". A file is read up to
+   DESK_BOOK_BYTES + 1 bytes, which is enough to refuse a longer one.
+   Where the answer is true, message is the empty text for version 2. Version 1 has no payments and euros: those of its
+   files are 0 in the book, so its totals are without them, and message says so. A host has to tell it. */
+bool desk_book_read(const uint8_t *text, size_t n, desk_book *book, char message[DESK_BOOK_MESSAGE]);
+
+/* The CRC-32 of zip and gzip: reflected, polynomial 0xEDB88320. */
+uint32_t desk_crc_32(const uint8_t *bytes, size_t n);
+
+/* A file's number: its Q4, Q6 and Q7 as one number (docs/RULES.md, 5.6). False, and number keeps its value, where a byte of
+   these is no digit, or missing. Whether the file is sound is not asked; of one that desk_judge_full or desk_prepare does not
+   refuse there is a number. */
+bool desk_file_number(const uint8_t *file, size_t n, uint64_t *number);
 
 #ifdef __cplusplus
 }

@@ -43,10 +43,8 @@
    nothing goes on, for it is refused or not restored, or an M8 record is missing; 2: used wrongly, or something could not
    be read or written; 3: all is done, but some payments come back. */
 #define _POSIX_C_SOURCE 200809L
-#include "codes.h"
 #include "common.h"
 #include "desk.h"
-#include "words.h"
 
 #include <errno.h>
 #include <fcntl.h>
@@ -59,14 +57,12 @@
 #include <sys/stat.h>
 #include <unistd.h>
 
-static const uint64_t none_taken[1];
-
 enum { CUT = 64 * 1024 }; /* bytes of a cut of standard input */
 enum { T10B = 210, LINE = 35, T14A = 458, T14B = 472, Z3 = 5, Z4 = 20, Z5 = 35 }; /* where fields begin; a line of T10b */
 enum { M8_DATE = 3, M8_FILE = 9, M8_AMOUNT = 38, M8_CODE = 56, M8_REFERENCE = 62 }; /* the same of an M8 record */
-/* A file that is longer than any sound one fills the last place too, and is refused. */
-static uint8_t file[MOST + 1], forwarded[MOST + 1], restored[MOST + 1], kept[MOST + 1], m8[PAYMENTS * DESK_M8_RECORD];
-static uint32_t notes[MOST], returned[PAYMENTS];
+enum { ROOM = DESK_MOST_BYTES + 1 }; /* a file that is longer than any sound one fills the last place too, and is refused */
+static uint8_t file[ROOM], forwarded[ROOM], restored[ROOM], kept[ROOM], m8[DESK_M8_BYTES(DESK_MOST_BYTES)];
+static uint32_t notes[MOST_NOTES], returned[MOST_RETURNED];
 
 /* The status to end with, where nothing failed. */
 enum { ALL_GOES_ON = 0, NOTHING_GOES_ON = 1, SOME_COME_BACK = 3 };
@@ -317,7 +313,7 @@ static uint64_t breaks_at(uint32_t page, size_t n, uint64_t record, uint64_t rul
     memcpy(small, forwarded, Q + T);
     memcpy(small + Q + T, payment(record), T);
     memcpy(small + Q + T + T, file + n - Z, Z);
-    desk_judgement judged = desk_judge_full(page, small, sizeof small, LISTS, none_taken, 0);
+    desk_judgement judged = desk_judge_full(page, small, sizeof small, DESK_ANNEXES, NULL, 0);
     return judged.number == rule ? judged.at : 0;
 }
 
@@ -361,8 +357,9 @@ static void tell_sound(uint32_t page, uint64_t payments, uint64_t euros, uint64_
 static desk_prepared prepare(const request *asked, size_t n, const desk_judgement *judged)
 {
     if (!asked->is_strict)
-        return desk_prepare(asked->page, file, n, LISTS, forwarded, sizeof forwarded, notes, MOST, returned, PAYMENTS);
-    desk_strict sent = desk_prepare_strict(asked->page, file, n, LISTS, forwarded, sizeof forwarded, notes, MOST);
+        return desk_prepare(asked->page, file, n, DESK_ANNEXES, forwarded, sizeof forwarded, notes, MOST_NOTES,
+                            returned, MOST_RETURNED);
+    desk_strict sent = desk_prepare_strict(asked->page, file, n, DESK_ANNEXES, forwarded, sizeof forwarded, notes, MOST_NOTES);
     return (desk_prepared){sent.number, sent.record, sent.notes, judged->payments, 0, judged->euros, 0};
 }
 
@@ -402,7 +399,7 @@ static void tell_m8(uint64_t payment_record, const uint8_t *record)
 /* Makes the M8 records, and tells them. There has to be one for each payment that comes back. */
 static bool make_m8(uint32_t page, size_t n, const desk_prepared *sent)
 {
-    desk_returns made = desk_m8(page, file, n, LISTS, desk_m8_codes, sizeof desk_m8_codes, m8, sizeof m8);
+    desk_returns made = desk_m8(page, file, n, DESK_ANNEXES, desk_m8_codes, sizeof desk_m8_codes, m8, sizeof m8);
     if (made.number || made.count != sent->returned) {
         puts("M8 records are missing: nothing is written");
         return false;
@@ -418,7 +415,7 @@ static bool make_m8(uint32_t page, size_t n, const desk_prepared *sent)
    sent, and what was restored from it is what goes on. */
 static int examine(const request *asked, size_t n, desk_prepared *sent)
 {
-    desk_judgement judged = desk_judge_full(asked->page, file, n, LISTS, none_taken, 0);
+    desk_judgement judged = desk_judge_full(asked->page, file, n, DESK_ANNEXES, NULL, 0);
     *sent = prepare(asked, n, &judged);
     if (sent->number) {
         tell_refusal(asked->page, sent, &judged);
@@ -432,7 +429,8 @@ static int examine(const request *asked, size_t n, desk_prepared *sent)
 
     size_t bytes = bytes_kept(sent);
     put_together(n, sent);
-    desk_restored back = desk_restore(asked->page, forwarded, bytes, notes, sent->notes, LISTS, restored, sizeof restored);
+    desk_restored back = desk_restore(asked->page, forwarded, bytes, notes, sent->notes, DESK_ANNEXES,
+                                      restored, sizeof restored);
     if (back.number || memcmp(kept, restored, bytes) != 0) {
         puts("not restored");
         return NOTHING_GOES_ON;
@@ -472,12 +470,12 @@ static bool feed_input(desk_reader *reader)
     static uint8_t cut[CUT];
     if (fcntl(STDIN_FILENO, F_GETFD) == -1)
         return wrong(input, "is closed");
-    for (size_t bytes = 0; bytes <= MOST;) {
+    for (size_t bytes = 0; bytes <= DESK_MOST_BYTES;) {
         ssize_t n = read(STDIN_FILENO, cut, sizeof cut);
         if (n == 0)
             return true;
         if (n > 0) {
-            *reader = desk_reader_feed(*reader, cut, (size_t)n, LISTS);
+            *reader = desk_reader_feed(*reader, cut, (size_t)n, DESK_ANNEXES);
             bytes += (size_t)n;
         } else if (errno != EINTR) {
             return wrong(input, strerror(errno));
@@ -492,7 +490,7 @@ static int judge_input(uint32_t page)
     desk_reader reader = desk_reader_new(page);
     if (!feed_input(&reader))
         return FAILED;
-    desk_answer found = desk_reader_end(reader, none_taken, 0).answer;
+    desk_answer found = desk_reader_end(reader, NULL, 0).answer;
     if (found.number) {
         tell_refused(page, found.number, found.record, found.at);
     } else {

@@ -1,11 +1,9 @@
-#include "words.h"
+#include "desk.h"
 
 #include <inttypes.h>
-#include <stdbool.h>
-#include <stddef.h>
 #include <stdio.h>
 
-/* The refusals, in the words of README.md. */
+/* The refusals, in the English words of docs/WORDS.md. */
 static const struct { uint64_t number; const char *words; } refusals[] = {
     {1, "file longer than 7,679,744 bytes (9,999 payments)"},
     {2, "file ends inside a record, or where one is due"},
@@ -65,6 +63,8 @@ static const desk_columns fields[] = {
     {"Z3", 6, 20},      {"Z4", 21, 35},     {"Z5", 36, 256},
 };
 
+enum { FIELDS = sizeof fields / sizeof fields[0] };
+
 const char *desk_words(uint64_t number)
 {
     for (size_t i = 0; i < sizeof refusals / sizeof refusals[0]; i++)
@@ -82,9 +82,17 @@ char desk_kind(uint64_t number)
     return number >= 40 && number <= 42 ? 'Z' : 0;
 }
 
+const desk_columns *desk_field(char kind, size_t index)
+{
+    for (size_t i = 0; i < FIELDS; i++)
+        if (fields[i].field[0] == kind && index-- == 0)
+            return &fields[i];
+    return NULL;
+}
+
 const desk_columns *desk_columns_at(char kind, uint64_t offset)
 {
-    for (size_t i = 0; i < sizeof fields / sizeof fields[0]; i++)
+    for (size_t i = 0; i < FIELDS; i++)
         if (fields[i].field[0] == kind && offset < fields[i].last && offset + 1 >= fields[i].first)
             return &fields[i];
     return NULL;

@@ -41,14 +41,14 @@ mod bookfile;
 mod common;
 #[allow(dead_code)]
 mod desk;
+mod keeping;
 
 use bookfile::{read_book, BookFile, BookFileError, Layout};
-use common::{
-    ended, failed, joined, no_page, page_of, path_of, read, say, tell_refusal, told, wrong, Failure, LISTS, T,
-};
-use desk::{Book, Entry, Page, Prepared, Refusal, Totals, BOOK_PLACES};
+use common::{ended, failed, joined, no_page, page_of, path_of, read, say, tell_refusal, told, wrong, Failure, T};
+use desk::{Entry, Lists, Page, Prepared, Refusal, Totals};
+use keeping::{tell_book, tell_entry, tell_not_taken};
 use std::ffi::{OsStr, OsString};
-use std::io::{self, Write};
+use std::io::Write;
 use std::path::Path;
 use std::process::ExitCode;
 
@@ -128,7 +128,7 @@ fn take(page: Page, book_path: &Path, day: u32, path: &Path) -> Result<End, Fail
     let (number, sent) = match prepare(page, &file) {
         Ok(sent) => sent,
         Err(refusal) => {
-            let judged = desk::judge(page, &file, LISTS, &[]).err();
+            let judged = desk::judge(page, &file, Lists::ANNEXES, &[]).err();
             told(|out| tell_refusal(page, refusal, judged, out))?;
             return Ok(End::Refused);
         }
@@ -155,37 +155,9 @@ fn take(page: Page, book_path: &Path, day: u32, path: &Path) -> Result<End, Fail
 fn prepare(page: Page, file: &[u8]) -> Result<(u64, Prepared), Refusal> {
     let (mut forwarded, mut notes) = (vec![0; file.len()], vec![0; file.len()]);
     let mut returned = vec![0; file.len() / T];
-    let sent = desk::prepare(page, file, LISTS, &mut forwarded, &mut notes, &mut returned)?;
+    let sent = desk::prepare(page, file, Lists::ANNEXES, &mut forwarded, &mut notes, &mut returned)?;
     let number = desk::file_number(file).expect("rules 11, 13 and 14 ask for digits");
     Ok((number, sent))
-}
-
-/// Tells why a number is not taken, and from which day on it might be.
-fn tell_not_taken(book: &Book, asked: Entry, refusal: Refusal, out: &mut impl Write) -> io::Result<()> {
-    writeln!(out, "refused on day {}: {refusal}", asked.day)?;
-    match (refusal.number, book.held()) {
-        (50, held) => held.iter().filter(|entry| entry.number == asked.number).try_for_each(|e| tell_entry(e, out))?,
-        (51, [first, ..]) => writeln!(out, "the next place is {}", free(first))?,
-        _ => {}
-    }
-    tell_book(book, out)
-}
-
-fn tell_entry(entry: &Entry, out: &mut impl Write) -> io::Result<()> {
-    let Entry { number, day, payments, euros } = entry;
-    writeln!(out, "file number {number}: taken on day {day}, {payments} payments, {euros} whole euros, {}", free(entry))
-}
-
-/// When the place of a number is free again, and the number.
-fn free(entry: &Entry) -> String {
-    match entry.free_from() {
-        Some(day) => format!("free from day {day} on"),
-        None => "not free on any day that is left".into(),
-    }
-}
-
-fn tell_book(book: &Book, out: &mut impl Write) -> io::Result<()> {
-    writeln!(out, "the book is on day {}, with {} of {BOOK_PLACES} places held", book.day(), book.held().len())
 }
 
 /// Says what a book that was read lacks.

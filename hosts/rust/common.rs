@@ -1,7 +1,7 @@
-//! What the example hosts have in common: the country lists, the page and the paths that their words name, a file as it is
-//! read, and how they tell what they find, and what they cannot do.
+//! What the example hosts have in common: the page and the paths that their words name, a file as it is read, and how they
+//! tell what they find, and what they cannot do.
 
-use super::desk::{Lists, Page, Refusal, MOST_BYTES};
+use super::desk::{Page, Refusal, MOST_BYTES};
 use std::ffi::{OsStr, OsString};
 use std::fmt::Display;
 use std::fs::File;
@@ -9,14 +9,6 @@ use std::io::{self, BufWriter, Read, Stdout, Write};
 use std::os::unix::ffi::OsStrExt;
 use std::path::Path;
 use std::process::ExitCode;
-
-/// Annex II and Annex I of source document 000.
-pub const LISTS: Lists = Lists {
-    transfer: b"AFEGALDZAOAGGQARAMAWAZETAUBSBHBDBBBZBMBTBOBABWBRBNBIKYCLCNCRCWDODJCISVECERSZFKFOFJPFGAGMGEGHGIGLGBGTGGGNGYHTHNHK\
-        INIDIQIMILJMJPYEJEJOKHCMCACVKZQAKEKGCOCDXKKWLALSLBLYMOMGMWMYMVMLMAMUMXMDMNMEMZNANPNZNIANNENGMKOMPKPWPAPGPYPEPHPR\
-        CGRWRUSBZMWSSASNRSSCSLZWSGSOSJLKSHKNZAKRSSSRTJTWTZTHTGTOTTTDTNTRTMTCUGUAUYUSUZVUAEVNBYCF",
-    cheque: b"ARBOBRCLCRDOSVECGTGBHNCACOMXNIPAPYPEPRUYUSVE",
-};
 
 /// The bytes of the records.
 pub const Q: usize = 256;

@@ -1,15 +1,18 @@
 //! The desk's calls for hosts written in Rust: safe functions over slices, above the calls of hosts/c/desk.h.
 //!
-//! They need libhost.a, which is x86-64 code (`rt staticlib host` writes it; `-L target/staticlib` finds it). The library
-//! asks that no pointer be null and that what is lent for writing overlap nothing else that is lent: slices and borrows
-//! keep both. Any bytes, any country lists and any room may be lent. Every call ends with an answer or a numbered refusal,
-//! and a refused call changes no byte that it was lent.
+//! They need libdesk.a, which is x86-64 code (`bash hosts/library` writes it; `-L target/library` finds it). The library asks
+//! that what is lent for writing overlap nothing else that is lent: slices and borrows keep that. Any bytes, any country
+//! lists and any room may be lent. Every call ends with an answer or a numbered refusal, and a refused call changes no byte
+//! that it was lent. No call has a state of its own, so any number of threads may call at the same time.
 //!
 //! Restore needs the page and the country lists that prepare had; with others it may refuse the pair. So store the page
 //! with the forwarded file and its notes.
 
 use std::io::{self, ErrorKind, Read};
 use std::{error, fmt, ops::Range};
+
+/// The version of this layer, and of the library that it is made for.
+pub const VERSION: &str = "4.9.0";
 
 /// The bytes of the longest file that rule 1 lets pass: 9,999 payments.
 pub const MOST_BYTES: u64 = 7_679_744;
@@ -19,6 +22,15 @@ pub const M8_RECORD: usize = 124;
 
 /// The places of a book: as many numbers are held at most.
 pub const BOOK_PLACES: usize = 200;
+
+/// The receiver's Annex II, the countries of transfers: 156, in the order of docs/DIFFERENCES.md.
+pub const ANNEX_II: &[u8] =
+    b"AFEGALDZAOAGGQARAMAWAZETAUBSBHBDBBBZBMBTBOBABWBRBNBIKYCLCNCRCWDODJCISVECERSZFKFOFJPFGAGMGEGHGIGLGBGTGGGNGYHTHNHK\
+    INIDIQIMILJMJPYEJEJOKHCMCACVKZQAKEKGCOCDXKKWLALSLBLYMOMGMWMYMVMLMAMUMXMDMNMEMZNANPNZNIANNENGMKOMPKPWPAPGPYPEPHPR\
+    CGRWRUSBZMWSSASNRSSCSLZWSGSOSJLKSHKNZAKRSSSRTJTWTZTHTGTOTTTDTNTRTMTCUGUAUYUSUZVUAEVNBYCF";
+
+/// The receiver's Annex I, the countries of cheques: 22.
+pub const ANNEX_I: &[u8] = b"ARBOBRCLCRDOSVECGTGBHNCACOMXNIPAPYPEPRUYUSVE";
 
 /// Codes of M8 records, to be lent to `m8`: six bytes for each rule from 20 to 35, in that order, four rules a line. The
 /// receiver's specification lists the codes and nowhere says which belongs to which rule: the desk's reading of it stands in
@@ -40,7 +52,7 @@ pub enum Page {
     Iso8859_1 = 1,
 }
 
-/// Country lists: two bytes a country; a lone last byte is ignored.
+/// Country lists: two bytes a country; a lone last byte is ignored. `Lists::ANNEXES` are the receiver's.
 #[derive(Clone, Copy, Debug)]
 pub struct Lists<'a> {
     pub transfer: &'a [u8],
@@ -325,11 +337,15 @@ pub fn place(file: &[u8], record: u64, field: Field) -> Option<Range<usize>> {
     (part.length > 0).then(|| start..start + part.length as usize)
 }
 
-/// The field of a record of kind `Q`, `T` or `Z` in which an offset lies. `None` where it lies in none: in the length
-/// digits, in the letter, or beyond the record.
+/// The fields of a record of kind `Q`, `T` or `Z`, in their order.
+pub fn fields(kind: char) -> impl Iterator<Item = Columns> {
+    FIELDS.into_iter().filter(move |row| row.field.starts_with(kind))
+}
+
+/// The field of such a record in which an offset lies. `None` where it lies in none: in the length digits, in the letter, or
+/// beyond the record.
 pub fn columns_at(kind: char, offset: u64) -> Option<Columns> {
-    let mut fields = FIELDS.into_iter().filter(|row| row.field.starts_with(kind));
-    fields.find(|row| offset < row.last && offset + 1 >= row.first)
+    fields(kind).find(|row| offset < row.last && offset + 1 >= row.first)
 }
 
 /// A file's number: its Q4, Q6 and Q7 as one number (docs/RULES.md, 5.6). `None` where a byte of these is no digit, or
@@ -338,6 +354,11 @@ pub fn file_number(file: &[u8]) -> Option<u64> {
     let [q4, q6, q7] = [13..23, 163..169, 169..171].map(|place| file.get(place));
     let digits = [q4?, q6?, q7?].concat();
     digits.iter().try_fold(0, |number, byte| byte.is_ascii_digit().then(|| number * 10 + u64::from(byte - b'0')))
+}
+
+impl Lists<'static> {
+    /// The receiver's Annex II for transfers, and Annex I for cheques.
+    pub const ANNEXES: Lists<'static> = Lists { transfer: ANNEX_II, cheque: ANNEX_I };
 }
 
 impl Reader {
@@ -574,7 +595,7 @@ impl fmt::Display for Columns {
 
 impl error::Error for Refusal {}
 
-/// The refusals, in the words of README.md.
+/// The refusals, in the English words of docs/WORDS.md.
 const WORDS: [(u64, &str); 42] = [
     (1, "file longer than 7,679,744 bytes (9,999 payments)"),
     (2, "file ends inside a record, or where one is due"),
@@ -793,7 +814,7 @@ mod c {
         pub euros: u64,
     }
 
-    #[link(name = "host", kind = "static")]
+    #[link(name = "desk", kind = "static")]
     extern "C" {
         pub fn desk_judge(
             file: *const u8,

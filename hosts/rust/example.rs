@@ -47,12 +47,17 @@
 mod common;
 #[allow(dead_code)] // not every call is made here
 mod desk;
+#[allow(dead_code)]
+mod sending;
+#[allow(dead_code)]
+mod text;
 
 use common::{
-    at_start, ended, failed, joined, no_page, page_of, path_of, read, refused, tell_refusal, told, wrong, Failure,
-    LISTS, Q, T, Z,
+    at_start, ended, failed, joined, no_page, page_of, path_of, read, refused, tell_refusal, told, wrong, Failure, Q,
+    T, Z,
 };
-use desk::{Answer, Judgement, Note, Page, Prepared, Reader, Refusal, M8_CODES, M8_RECORD};
+use desk::{Answer, Judgement, Lists, Note, Page, Prepared, Reader, Refusal, M8_CODES, M8_RECORD};
+use sending::{payment, prepare, put_together, returned_at, Outgoing, Way, Z3, Z4};
 use std::ffi::{OsStr, OsString};
 use std::fs::{self, File, OpenOptions};
 use std::io::{self, ErrorKind, Write};
@@ -60,15 +65,9 @@ use std::ops::Range;
 use std::os::unix::{ffi::OsStrExt, fs::MetadataExt, io::AsFd};
 use std::path::{Path, PathBuf};
 use std::process::ExitCode;
+use text::{amount, character, number, text, PAYEE};
 
-/// Where fields stand in their records; of T10b the first line.
-const PAYEE: Range<usize> = 210..245;
-const T14A: Range<usize> = 458..472;
-const T14B: Range<usize> = 472..475;
-const Z3: Range<usize> = 5..20;
-const Z4: Range<usize> = 20..35;
-
-/// The same of an M8 record.
+/// Where fields stand in an M8 record.
 const M8_DATE: Range<usize> = 3..9;
 const M8_FILE: Range<usize> = 9..14;
 const M8_AMOUNT: Range<usize> = 38..56;
@@ -91,35 +90,33 @@ enum GoesOn {
 
 fn main() -> ExitCode {
     let words: Vec<OsString> = std::env::args_os().skip(1).collect();
-    let done = understand(&words).and_then(|(way, paths)| match paths {
-        [word] if word == INPUT => judge_input(way.page),
-        [file] => work_on_file(way, Path::new(file), [None, None, way.m8]),
-        [file, forwarded, notes] => work_on_file(way, Path::new(file), [Some(forwarded), Some(notes), way.m8]),
+    let done = understand(&words).and_then(|(asked, paths)| match paths {
+        [word] if word == INPUT => judge_input(asked.way.page),
+        [file] => work_on_file(asked, Path::new(file), [None, None, asked.m8]),
+        [file, forwarded, notes] => work_on_file(asked, Path::new(file), [Some(forwarded), Some(notes), asked.m8]),
         _ => Err(USAGE.into()),
     });
     ended(done.map(|goes_on| goes_on as u8))
 }
 
-/// How the file is to be prepared: on which page, whether as a whole or not at all, and where M8 records go, if they are
-/// asked for.
+/// What the options ask for: how the file is to be prepared, and where M8 records go, if anywhere.
 #[derive(Clone, Copy)]
-struct Way<'a> {
-    page: Page,
-    is_strict: bool,
+struct Asked<'a> {
+    way: Way<'static>,
     m8: Option<&'a OsStr>,
 }
 
-/// What is asked for: by the options the way, and by the other words the paths, or - alone for standard input.
-fn understand(words: &[OsString]) -> Result<(Way<'_>, &[OsString]), Failure> {
-    let (way, paths) = options(words)?;
-    match misplaced(way, paths) {
+/// What is asked for: by the options, and by the other words the paths, or - alone for standard input.
+fn understand(words: &[OsString]) -> Result<(Asked<'_>, &[OsString]), Failure> {
+    let (asked, paths) = options(words)?;
+    match misplaced(asked, paths) {
         Some(line) => Err(joined(&[&line, &"\n", &USAGE])),
-        None => Ok((way, paths)),
+        None => Ok((asked, paths)),
     }
 }
 
 /// The options, in any order and each once, and the words behind them.
-fn options(mut words: &[OsString]) -> Result<(Way<'_>, &[OsString]), Failure> {
+fn options(mut words: &[OsString]) -> Result<(Asked<'_>, &[OsString]), Failure> {
     let (mut page, mut is_strict, mut m8) = (None, false, None);
     loop {
         words = match words {
@@ -137,39 +134,42 @@ fn options(mut words: &[OsString]) -> Result<(Way<'_>, &[OsString]), Failure> {
                 m8 = Some(word.as_os_str());
                 behind
             }
-            _ => return Ok((Way { page: page.unwrap_or(Page::Iso8859_1), is_strict, m8 }, words)),
+            _ => {
+                let way = Way { page: page.unwrap_or(Page::Iso8859_1), lists: Lists::ANNEXES, is_strict };
+                return Ok((Asked { way, m8 }, words));
+            }
         }
     }
 }
 
 /// What is wrong with a word where it stands: standard input stands alone, the strict way has no M8 records, and all other
 /// words are paths, which do not begin as an option does.
-fn misplaced(way: Way, words: &[OsString]) -> Option<Failure> {
+fn misplaced(asked: Asked, words: &[OsString]) -> Option<Failure> {
     match words {
-        [word] if word == INPUT && way.m8.is_none() => None,
+        [word] if word == INPUT && asked.m8.is_none() => None,
         [word, ..] if word == INPUT => {
             Some(wrong(word, "standard input can only be judged; FORWARDED, NOTES and M8 need a FILE"))
         }
-        _ if way.is_strict && way.m8.is_some() => {
+        _ if asked.way.is_strict && asked.m8.is_some() => {
             Some(wrong("--m8", "with --strict no payment comes back, and there are no M8 records"))
         }
         _ => {
-            let mut paths = way.m8.into_iter().chain(words.iter().map(OsString::as_os_str));
+            let mut paths = asked.m8.into_iter().chain(words.iter().map(OsString::as_os_str));
             paths.find_map(|word| path_of(word).err())
         }
     }
 }
 
 /// The host's work on a file. The targets are those of the forwarded file, of the notes and of the M8 records.
-fn work_on_file(way: Way, path: &Path, targets: [Option<&OsStr>; 3]) -> Result<GoesOn, Failure> {
+fn work_on_file(asked: Asked, path: &Path, targets: [Option<&OsStr>; 3]) -> Result<GoesOn, Failure> {
     let targets = targets.map(|path| path.map(Target::new));
     are_new(&targets)?;
     let file = read(path)?;
-    let outgoing = match told(|out| examine(way, &file, out))? {
+    let (outgoing, m8) = match told(|out| examine(asked, &file, out))? {
         Some(outgoing) => outgoing,
         None => return Ok(GoesOn::Nothing),
     };
-    write_named(&targets, &outgoing)?;
+    write_named(&targets, &outgoing, &m8)?;
     Ok(if outgoing.returned.is_empty() { GoesOn::All } else { GoesOn::Some })
 }
 
@@ -195,36 +195,28 @@ fn feed_input(reader: &mut Reader) -> Result<(), Failure> {
         return Err(wrong(name, "is closed"));
     }
     let input = io::stdin().as_fd().try_clone_to_owned().map(File::from);
-    input.and_then(|input| reader.feed_from(input, LISTS)).map_err(|error| failed(name, &error))
-}
-
-/// What goes on: the forwarded file, and its notes; the list of what comes back, and where they are asked for its M8
-/// records.
-struct Outgoing {
-    forwarded: Vec<u8>,
-    notes: Vec<u32>,
-    returned: Vec<u32>,
-    m8: Vec<u8>,
+    input.and_then(|input| reader.feed_from(input, Lists::ANNEXES)).map_err(|error| failed(name, &error))
 }
 
 /// Judges, prepares and restores the file in memory, and tells what it finds. What goes on is there where the file is not
-/// refused and the very file was restored, or where payments come back the kept file.
-fn examine(way: Way, file: &[u8], out: &mut impl Write) -> io::Result<Option<Outgoing>> {
-    let Way { page, .. } = way;
-    let judged = desk::judge(page, file, LISTS, &[]);
-    let (outgoing, sent) = match prepare(way, file, judged) {
+/// refused and the very file was restored, or where payments come back the kept file; beside it, where they are asked for, the
+/// M8 records.
+fn examine(asked: Asked, file: &[u8], out: &mut impl Write) -> io::Result<Option<(Outgoing, Vec<u8>)>> {
+    let Way { page, lists, .. } = asked.way;
+    let judged = desk::judge(page, file, lists, &[]);
+    let (outgoing, sent) = match prepare(asked.way, file, judged) {
         Ok(prepared) => prepared,
         Err(refusal) => return tell_refusal(page, refusal, judged.err(), out).map(|()| None),
     };
     match judged {
         Ok(judgement) => tell_sound(page, judgement, out)?,
-        Err(_) => tell_sorted(page, file, &outgoing, sent, out)?,
+        Err(_) => tell_sorted(asked.way, file, &outgoing, sent, out)?,
     }
-    let Outgoing { forwarded, notes, returned, .. } = &outgoing;
+    let Outgoing { forwarded, notes, returned } = &outgoing;
     tell_changes(forwarded, notes, out)?;
 
     let mut restored = vec![0; forwarded.len()];
-    let back = desk::restore(page, forwarded, notes, LISTS, &mut restored);
+    let back = desk::restore(page, forwarded, notes, lists, &mut restored);
     let is_restored = back.is_ok() && restored == put_together(file, returned, sent);
     let line = match (is_restored, returned.is_empty()) {
         (false, _) => "not restored",
@@ -232,23 +224,23 @@ fn examine(way: Way, file: &[u8], out: &mut impl Write) -> io::Result<Option<Out
         (true, false) => "restored: the very kept file",
     };
     writeln!(out, "{line}")?;
-    match way.m8 {
+    match asked.m8 {
         _ if !is_restored => Ok(None),
-        None => Ok(Some(outgoing)),
-        Some(_) => Ok(m8_records(page, file, returned, sent, out)?.map(|m8| Outgoing { m8, ..outgoing })),
+        None => Ok(Some((outgoing, Vec::new()))),
+        Some(_) => Ok(m8_records(asked.way, file, returned, sent, out)?.map(|m8| (outgoing, m8))),
     }
 }
 
 /// The M8 records, which it tells. There has to be one for each payment that comes back.
 fn m8_records(
-    page: Page,
+    way: Way,
     file: &[u8],
     returned: &[u32],
     sent: Prepared,
     out: &mut impl Write,
 ) -> io::Result<Option<Vec<u8>>> {
     let mut records = vec![0; sent.m8_bytes()];
-    if desk::m8(page, file, LISTS, &M8_CODES, &mut records) != Ok(returned.len()) {
+    if desk::m8(way.page, file, way.lists, &M8_CODES, &mut records) != Ok(returned.len()) {
         writeln!(out, "M8 records are missing: nothing is written")?;
         return Ok(None);
     }
@@ -274,121 +266,23 @@ fn tell_m8(payment_record: u64, record: &[u8], out: &mut impl Write) -> io::Resu
     writeln!(out, "    code {code}: {meaning}")
 }
 
-/// Prepares the file by the way that is asked for. What the strict way sends is the whole file, as the judge counts it.
-fn prepare(way: Way, file: &[u8], judged: Result<Judgement, Refusal>) -> Result<(Outgoing, Prepared), Refusal> {
-    let (mut forwarded, mut notes) = (vec![0; file.len()], vec![0; file.len()]);
-    let mut returned = vec![0; file.len() / T];
-    let sent = if way.is_strict {
-        let Judgement { payments, euros, .. } = judged?;
-        let notes = desk::prepare_strict(way.page, file, LISTS, &mut forwarded, &mut notes)?;
-        Prepared { notes, kept: payments as usize, returned: 0, kept_euros: euros, returned_euros: 0 }
-    } else {
-        desk::prepare(way.page, file, LISTS, &mut forwarded, &mut notes, &mut returned)?
-    };
-    forwarded.truncate(sent.bytes());
-    notes.truncate(sent.notes);
-    returned.truncate(sent.returned);
-    Ok((Outgoing { forwarded, notes, returned, m8: Vec::new() }, sent))
-}
-
-/// Puts the kept file together: the records of the file that are not in the list, and Z with the figures.
-fn put_together(file: &[u8], returned: &[u32], sent: Prepared) -> Vec<u8> {
-    let (q, behind_q) = file.split_at(Q);
-    let (payments, z) = behind_q.split_at(behind_q.len() - Z);
-    let mut kept = q.to_vec();
-    let mut missing = returned.iter().map(|&number| Refusal::of_returned(number).record).peekable();
-    for (record, payment) in (1..).zip(payments.chunks(T)) {
-        if missing.next_if_eq(&record).is_none() {
-            kept.extend(payment);
-        }
-    }
-    kept.extend(&z[..Z3.start]);
-    kept.extend(format!("{:015}{:015}", sent.kept_euros, sent.kept).bytes());
-    kept.extend(&z[Z4.end..]);
-    kept
-}
-
 /// Tells which payments come back, and the totals.
-fn tell_sorted(
-    page: Page,
-    file: &[u8],
-    outgoing: &Outgoing,
-    sent: Prepared,
-    out: &mut impl Write,
-) -> io::Result<()> {
+fn tell_sorted(way: Way, file: &[u8], outgoing: &Outgoing, sent: Prepared, out: &mut impl Write) -> io::Result<()> {
     let Prepared { kept, returned, kept_euros, returned_euros, .. } = sent;
     let z = &file[file.len() - Z..];
-    writeln!(out, "not sound on {page}: payments that break a rule come back, the others go on")?;
-    for refusal in outgoing.returned.iter().copied().map(Refusal::of_returned) {
-        tell_returned(page, file, &outgoing.forwarded, refusal, out)?;
+    writeln!(out, "not sound on {}: payments that break a rule come back, the others go on", way.page)?;
+    for &number in &outgoing.returned {
+        let refusal = returned_at(way, file, &outgoing.forwarded, number);
+        let payment = payment(file, refusal.record);
+        let (amount, payee) = (amount(payment), text(way.page, &payment[PAYEE]));
+        writeln!(out, "record {} comes back: {amount} euros to \"{payee}\"", refusal.record)?;
+        writeln!(out, "    {refusal}")?;
     }
     writeln!(out, "kept: {kept} payments, {kept_euros} whole euros")?;
     writeln!(out, "returned: {returned} payments, {returned_euros} whole euros")?;
     writeln!(out, "submitted: {} payments, {} whole euros", number(&z[Z4]), number(&z[Z3]))?;
     writeln!(out, "the kept file has the submitted file's number; what comes back needs a new one")?;
     writeln!(out, "in the kept file:")
-}
-
-fn tell_returned(
-    page: Page,
-    file: &[u8],
-    forwarded: &[u8],
-    refusal: Refusal,
-    out: &mut impl Write,
-) -> io::Result<()> {
-    let begin = Q + (refusal.record as usize - 1) * T;
-    let payment = &file[begin..begin + T];
-    let payee = text(page, &payment[PAYEE]);
-    writeln!(out, "record {} comes back: {} euros to \"{payee}\"", refusal.record, amount(payment))?;
-
-    // where it breaks the rule: what the judge says of it behind a sound Q and a sound payment of the same account
-    let small = [&forwarded[..Q + T], payment, &file[file.len() - Z..]].concat();
-    let at = match desk::judge(page, &small, LISTS, &[]) {
-        Err(Refusal { number, at, .. }) if number == refusal.number => at,
-        _ => 0,
-    };
-    writeln!(out, "    {}", Refusal { at, ..refusal })
-}
-
-/// A payment's amount, with the third digit behind the comma where it is not 0.
-fn amount(payment: &[u8]) -> String {
-    let (euros, thousandths) = (number(&payment[T14A]), number(&payment[T14B]));
-    match thousandths % 10 {
-        0 => format!("{euros},{:02}", thousandths / 10),
-        _ => format!("{euros},{thousandths:03}"),
-    }
-}
-
-/// Digits as a number. Where it is asked for, the desk has found digits.
-fn number(digits: &[u8]) -> u64 {
-    digits.iter().fold(0, |number, digit| number * 10 + u64::from(digit - b'0'))
-}
-
-/// A text as the page reads it, without the spaces behind it.
-fn text(page: Page, bytes: &[u8]) -> String {
-    let text: String = bytes.iter().map(|&byte| character(page, byte)).collect();
-    text.trim_end_matches(' ').into()
-}
-
-/// A character as the page reads it; U+FFFD where there is none, and in the place of one that a terminal would obey.
-fn character(page: Page, byte: u8) -> char {
-    let character = match (page, byte) {
-        (Page::Iso8859_1, _) => byte.into(),
-        (Page::Din66003, b'@') => '§',
-        (Page::Din66003, b'[') => 'Ä',
-        (Page::Din66003, b'\\') => 'Ö',
-        (Page::Din66003, b']') => 'Ü',
-        (Page::Din66003, b'{') => 'ä',
-        (Page::Din66003, b'|') => 'ö',
-        (Page::Din66003, b'}') => 'ü',
-        (Page::Din66003, b'~') => 'ß',
-        (Page::Din66003, 0x80..) => char::REPLACEMENT_CHARACTER,
-        (Page::Din66003, _) => byte.into(),
-    };
-    match character.is_control() {
-        true => char::REPLACEMENT_CHARACTER,
-        false => character,
-    }
 }
 
 fn tell_sound(page: Page, judgement: Judgement, out: &mut impl Write) -> io::Result<()> {
@@ -438,12 +332,12 @@ fn are_new(targets: &[Option<Target>; 3]) -> Result<(), Failure> {
 }
 
 /// Writes what is named: M8 only where payments come back, and the forwarded file last.
-fn write_named(targets: &[Option<Target>; 3], outgoing: &Outgoing) -> Result<(), Failure> {
+fn write_named(targets: &[Option<Target>; 3], outgoing: &Outgoing, m8_records: &[u8]) -> Result<(), Failure> {
     let [forwarded, notes, m8] = targets;
     let note_bytes: Vec<u8> = outgoing.notes.iter().flat_map(|note| note.to_le_bytes()).collect();
     let mut files: Vec<(&Target, &[u8])> = Vec::new();
     files.extend(notes.iter().map(|target| (target, &note_bytes[..])));
-    files.extend(m8.iter().filter(|_| !outgoing.m8.is_empty()).map(|target| (target, &outgoing.m8[..])));
+    files.extend(m8.iter().filter(|_| !m8_records.is_empty()).map(|target| (target, m8_records)));
     files.extend(forwarded.iter().map(|target| (target, &outgoing.forwarded[..])));
     write_all(&files)
 }
