@@ -1,0 +1,146 @@
+//! `book new|take|list|totals`: the book of taken file numbers, in a file (docs/BOOK-FILE.md).
+
+use super::way;
+use crate::cli;
+use crate::common::{failed, joined, say, Failure};
+use crate::examine::{send, Sent};
+use crate::input::Input;
+use crate::keeping::{in_the_way, tell_book, tell_entry, tell_not_taken};
+use crate::lists::Countries;
+use crate::table::replacements;
+use crate::tell::{self, name, refusal_json, tell, End, Shown};
+use desk::bookfile::{read_book, BookFile, BookFileError, Layout};
+use desk::{Book, Entry, Refusal, Totals};
+use serde_json::{json, Value};
+use std::io::{self, Write};
+use std::path::Path;
+
+/// Makes a book file.
+pub fn make(path: &Path, is_json: bool) -> Result<End, Failure> {
+    let file = BookFile::create(path).map_err(failure)?;
+    let book = file.book().clone();
+    let written = file.write().map_err(failure)?;
+    tell(is_json, &book_json("book new", path, &book), |out| tell_book(&book, out))?;
+    written.put_in_place().map_err(failure)?;
+    Ok(End::Done)
+}
+
+/// Tells what a book file holds.
+pub fn list(path: &Path, is_json: bool) -> Result<End, Failure> {
+    let book = read(path)?;
+    let mut told = book_json("book list", path, &book);
+    tell::add(&mut told, json!({ "files": book.held().iter().map(entry_json).collect::<Vec<Value>>() }));
+    tell(is_json, &told, |out| {
+        tell_book(&book, out)?;
+        book.held().iter().try_for_each(|entry| tell_entry(entry, out))
+    })?;
+    Ok(End::Done)
+}
+
+/// Tells the totals that a book has.
+pub fn totals(path: &Path, is_json: bool) -> Result<End, Failure> {
+    let book = read(path)?;
+    let Totals { files, payments, euros } = book.totals();
+    tell(is_json, &book_json("book totals", path, &book), |out| {
+        writeln!(out, "totals on day {}: files {files}, payments {payments}, whole euros {euros}", book.day())?;
+        tell_unknown(&book, out)
+    })?;
+    Ok(End::Done)
+}
+
+/// Takes the number of a file, with the figures of what goes on.
+pub fn take(words: &cli::Take, is_json: bool) -> Result<End, Failure> {
+    let countries = Countries::of(words.reading.lists.lists.as_deref())?;
+    let way = way(&words.reading, &countries, words.strict);
+    let file = Input::open(&words.file)?.read()?;
+    let sent = match send(way, &file, desk::judge(way.page, &file, way.lists, &[]))? {
+        Ok(sent) => sent,
+        Err(not_sent) => {
+            let shown = Shown { page: way.page, table: &replacements(way.page) };
+            let mut told = json!({ "command": "book take", "book": name(&words.book), "taken": false });
+            tell::add(&mut told, tell::not_sent_json(way, &file, &not_sent, &shown));
+            tell(is_json, &told, |out| tell::not_sent(way, &file, &not_sent, &shown, out))?;
+            return Ok(End::Refused);
+        }
+    };
+    let number = desk::file_number(&file).expect("rules 11, 13 and 14 ask for digits");
+    let Sent { figures, .. } = &sent;
+    let asked = Entry { number, day: words.day, payments: figures.kept as u64, euros: figures.kept_euros };
+    let (mut file, layout) = BookFile::open(&words.book).map_err(failure)?;
+    say_layout(&words.book, layout);
+    if let Err(refusal) = file.take(asked.number, asked.day, asked.payments, asked.euros) {
+        return not_taken(words, file.book(), asked, refusal, is_json);
+    }
+    let book = file.book().clone();
+    let written = file.write().map_err(failure)?;
+    let mut told = book_json("book take", &words.book, &book);
+    tell::add(&mut told, json!({ "taken": true, "file": entry_json(&asked), "returned": figures.returned }));
+    tell(is_json, &told, |out| {
+        writeln!(out, "on {} {} payments go on, {} come back", way.page, figures.kept, figures.returned)?;
+        tell_entry(&asked, out)?;
+        tell_book(&book, out)
+    })?;
+    written.put_in_place().map_err(failure)?;
+    Ok(End::Done)
+}
+
+/// Tells why a number is not taken, and from which day on it might be.
+fn not_taken(words: &cli::Take, book: &Book, asked: Entry, refusal: Refusal, is_json: bool) -> Result<End, Failure> {
+    let mut told = book_json("book take", &words.book, book);
+    let in_the_way = in_the_way(book, asked, refusal).map(entry_json);
+    let file = entry_json(&asked);
+    let refused = json!({ "taken": false, "file": file, "refusal": refusal_json(refusal), "in_the_way": in_the_way });
+    tell::add(&mut told, refused);
+    tell(is_json, &told, |out| tell_not_taken(book, asked, refusal, out))?;
+    Ok(End::Refused)
+}
+
+/// A book that is looked at; what it lacks is said.
+fn read(path: &Path) -> Result<Book, Failure> {
+    let (book, layout) = read_book(path).map_err(failure)?;
+    say_layout(path, layout);
+    Ok(book)
+}
+
+/// Says how many held files have no figures: something goes on of each, so one without payments was taken before books had
+/// any (docs/BOOK-FILE.md, version 1).
+fn tell_unknown(book: &Book, out: &mut dyn Write) -> io::Result<()> {
+    match book.held().iter().filter(|entry| entry.payments == 0).count() {
+        0 => Ok(()),
+        count => writeln!(out, "without the figures of {count} files, which were taken before the book had any"),
+    }
+}
+
+/// What a book has as a whole, for machines.
+fn book_json(command: &str, path: &Path, book: &Book) -> Value {
+    let Totals { files, payments, euros } = book.totals();
+    json!({
+        "command": command,
+        "book": name(path),
+        "day": book.day(),
+        "held": files,
+        "payments": payments,
+        "euros": euros,
+    })
+}
+
+fn entry_json(entry: &Entry) -> Value {
+    json!({
+        "file_number": entry.number,
+        "day": entry.day,
+        "payments": entry.payments,
+        "euros": entry.euros,
+        "free_from": entry.free_from(),
+    })
+}
+
+/// Says what a book that was read lacks.
+fn say_layout(path: &Path, layout: Layout) {
+    if let Some(notice) = layout.notice() {
+        say(joined(&[&"kaaravizhe: ", &path, &": ", &notice]));
+    }
+}
+
+fn failure(error: BookFileError) -> Failure {
+    failed(error.path, &error.why)
+}

@@ -1,0 +1,101 @@
+//! What the desk says of a file that is to go on: judged, prepared, and restored again to show that nothing is lost.
+
+use crate::common::{Failure, Q, T};
+use crate::records::{lines, range};
+use crate::sending::{self, put_together, returned_at, Outgoing, Way};
+use desk::{Columns, Judgement, Note, Prepared, Refusal};
+
+/// What goes on of a file, and what comes back.
+pub struct Sent {
+    pub forwarded: Vec<u8>,
+    pub notes: Vec<u32>,
+    /// The file that went on, as it was written: the submitted one, or without what comes back.
+    pub original: Vec<u8>,
+    /// The payments that come back, each with its rule and the field.
+    pub returned: Vec<Refusal>,
+    pub figures: Prepared,
+}
+
+/// Why nothing goes on; and what the judge finds first, where that is another rule.
+pub struct NotSent {
+    pub refusal: Refusal,
+    pub first_broken: Option<Refusal>,
+}
+
+/// A line of a text field in which characters are changed.
+pub struct ChangedLine<'a> {
+    /// The record in the submitted file, and the line's columns in it.
+    pub record: u64,
+    pub columns: Columns,
+    pub before: &'a [u8],
+    pub after: &'a [u8],
+}
+
+/// Prepares a file by the way that is asked for. What is restored from what goes on has to be that very file.
+pub fn send(way: Way, file: &[u8], judged: Result<Judgement, Refusal>) -> Result<Result<Sent, NotSent>, Failure> {
+    let (outgoing, figures) = match sending::prepare(way, file, judged) {
+        Ok(prepared) => prepared,
+        Err(refusal) => return Ok(Err(not_sent(refusal, judged.err()))),
+    };
+    let Outgoing { forwarded, notes, returned } = outgoing;
+    let mut original = vec![0; forwarded.len()];
+    let back = desk::restore(way.page, &forwarded, &notes, way.lists, &mut original);
+    if back.is_err() || original != put_together(file, &returned, figures) {
+        return Err("what goes on was not restored from its notes: nothing is written".into());
+    }
+    let returned = returned.iter().map(|&number| returned_at(way, file, &forwarded, number)).collect();
+    Ok(Ok(Sent { forwarded, notes, original, returned, figures }))
+}
+
+/// Prepare tells no field; the judge does, where it stops at the same rule.
+fn not_sent(refusal: Refusal, first: Option<Refusal>) -> NotSent {
+    let Refusal { number, record, .. } = refusal;
+    match first {
+        Some(first) if (first.number, first.record) == (number, record) => {
+            NotSent { refusal: first, first_broken: None }
+        }
+        first_broken => NotSent { refusal, first_broken },
+    }
+}
+
+impl Sent {
+    /// The numbers that the payments which go on have in the submitted file.
+    pub fn kept_records(&self) -> Vec<u64> {
+        let mut returned = self.returned.iter().map(|refusal| refusal.record).peekable();
+        let submitted = 1..=(self.figures.kept + self.figures.returned) as u64;
+        submitted.filter(|record| returned.next_if_eq(record).is_none()).collect()
+    }
+
+    /// The lines in which characters are changed, in the order of the file.
+    pub fn changed_lines(&self) -> Vec<ChangedLine<'_>> {
+        let kept_records = self.kept_records();
+        let mut changed: Vec<ChangedLine> = Vec::new();
+        let mut end = 0; // of the last such line, in the file that goes on
+        for Note { place, .. } in self.notes.iter().copied().map(Note::from) {
+            if place < end {
+                continue;
+            }
+            let (kind, record, begin) = match place.checked_sub(Q) {
+                None => ('Q', 0, 0),
+                Some(behind_q) => ('T', kept_records[behind_q / T], Q + behind_q / T * T),
+            };
+            let columns = line_at(kind, place - begin);
+            let line = begin + range(columns).start..begin + range(columns).end;
+            end = line.end;
+            changed.push(ChangedLine {
+                record,
+                columns,
+                before: &self.original[line.clone()],
+                after: &self.forwarded[line],
+            });
+        }
+        changed
+    }
+}
+
+/// The line of a text field in which an offset of a record lies.
+fn line_at(kind: char, offset: usize) -> Columns {
+    let field = desk::columns_at(kind, offset as u64).expect("characters are changed in fields alone");
+    let column = offset as u64 + 1;
+    lines(field).find(|line| line.last >= column).expect("the lines are all of the field")
+}

@@ -1,0 +1,47 @@
+//! The records of a file, and their fields.
+
+use crate::common::{Q, T, Z};
+use desk::Columns;
+use std::ops::Range;
+
+/// A record of a file, by its number.
+#[derive(Clone, Copy)]
+pub struct Record<'a> {
+    pub number: u64,
+    pub kind: char,
+    pub bytes: &'a [u8],
+}
+
+/// Where a record stands in a file whose structure is right, and its kind; `None` where there is no such record.
+pub fn place(file: &[u8], number: u64) -> Option<(char, Range<usize>)> {
+    let payments = (file.len().checked_sub(Q + Z)? / T) as u64;
+    let behind_q = |number: u64| Q + T * (number as usize - 1);
+    match number {
+        0 => Some(('Q', 0..Q)),
+        _ if number <= payments => Some(('T', behind_q(number)..behind_q(number) + T)),
+        _ if number == payments + 1 => Some(('Z', behind_q(number)..behind_q(number) + Z)),
+        _ => None,
+    }
+}
+
+/// A record of a file whose structure is right.
+pub fn record(file: &[u8], number: u64) -> Option<Record<'_>> {
+    let (kind, place) = place(file, number)?;
+    Some(Record { number, kind, bytes: file.get(place)? })
+}
+
+/// Where a field stands in its record.
+pub fn range(columns: Columns) -> Range<usize> {
+    columns.first as usize - 1..columns.last as usize
+}
+
+/// The lines of a field, as people write them: rows of 35 bytes, with their columns.
+pub fn lines(columns: Columns) -> impl Iterator<Item = Columns> {
+    const LINE: u64 = 35;
+    let Columns { field, first, last } = columns;
+    (first..=last).step_by(LINE as usize).map(move |begin| Columns {
+        field,
+        first: begin,
+        last: last.min(begin + LINE - 1),
+    })
+}
