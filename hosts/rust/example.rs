@@ -204,7 +204,7 @@ fn feed_input(reader: &mut Reader) -> Result<(), Failure> {
 fn examine(asked: Asked, file: &[u8], out: &mut impl Write) -> io::Result<Option<(Outgoing, Vec<u8>)>> {
     let Way { page, lists, .. } = asked.way;
     let judged = desk::judge(page, file, lists, &[]);
-    let (outgoing, sent) = match prepare(asked.way, file, judged) {
+    let (outgoing, sent) = match prepare(asked.way, file) {
         Ok(prepared) => prepared,
         Err(refusal) => return tell_refusal(page, refusal, judged.err(), out).map(|()| None),
     };

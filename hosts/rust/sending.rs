@@ -25,11 +25,11 @@ pub struct Outgoing {
 }
 
 /// Prepares the file by the way that is asked for. What the strict way sends is the whole file, as the judge counts it.
-pub fn prepare(way: Way, file: &[u8], judged: Result<Judgement, Refusal>) -> Result<(Outgoing, Prepared), Refusal> {
+pub fn prepare(way: Way, file: &[u8]) -> Result<(Outgoing, Prepared), Refusal> {
     let (mut forwarded, mut notes) = (vec![0; file.len()], vec![0; file.len()]);
     let mut returned = vec![0; file.len() / T];
     let sent = if way.is_strict {
-        let Judgement { payments, euros, .. } = judged?;
+        let Judgement { payments, euros, .. } = desk::judge(way.page, file, way.lists, &[])?;
         let notes = desk::prepare_strict(way.page, file, way.lists, &mut forwarded, &mut notes)?;
         Prepared { notes, kept: payments as usize, returned: 0, kept_euros: euros, returned_euros: 0 }
     } else {

@@ -1,9 +1,11 @@
 //! What the desk says of a file that is to go on: judged, prepared, and restored again to show that nothing is lost.
 
 use crate::common::{Failure, Q, T};
-use crate::records::{lines, range};
-use crate::sending::{self, put_together, returned_at, Outgoing, Way};
-use desk::{Columns, Judgement, Note, Prepared, Refusal};
+use crate::records::{lines, range, record};
+use crate::sending::{self, put_together, returned_at, Outgoing, Way, Z3, Z4};
+use crate::text::{T14A, T14B};
+use desk::{Columns, Note, Page, Prepared, Refusal};
+use std::ops::Range;
 
 /// What goes on of a file, and what comes back.
 pub struct Sent {
@@ -32,10 +34,13 @@ pub struct ChangedLine<'a> {
 }
 
 /// Prepares a file by the way that is asked for. What is restored from what goes on has to be that very file.
-pub fn send(way: Way, file: &[u8], judged: Result<Judgement, Refusal>) -> Result<Result<Sent, NotSent>, Failure> {
-    let (outgoing, figures) = match sending::prepare(way, file, judged) {
+pub fn send(way: Way, file: &[u8]) -> Result<Result<Sent, NotSent>, Failure> {
+    let (outgoing, figures) = match sending::prepare(way, file) {
         Ok(prepared) => prepared,
-        Err(refusal) => return Ok(Err(not_sent(refusal, judged.err()))),
+        Err(refusal) => {
+            let judged = desk::judge(way.page, file, way.lists, &[]);
+            return Ok(Err(not_sent(file, refusal, judged.err())));
+        }
     };
     let Outgoing { forwarded, notes, returned } = outgoing;
     let mut original = vec![0; forwarded.len()];
@@ -48,14 +53,38 @@ pub fn send(way: Way, file: &[u8], judged: Result<Judgement, Refusal>) -> Result
 }
 
 /// Prepare tells no field; the judge does, where it stops at the same rule.
-fn not_sent(refusal: Refusal, first: Option<Refusal>) -> NotSent {
-    let Refusal { number, record, .. } = refusal;
+fn not_sent(file: &[u8], refusal: Refusal, first: Option<Refusal>) -> NotSent {
+    let is_same = |first: &Refusal| (first.number, first.record) == (refusal.number, refusal.record);
     match first {
-        Some(first) if (first.number, first.record) == (number, record) => {
-            NotSent { refusal: first, first_broken: None }
-        }
-        first_broken => NotSent { refusal, first_broken },
+        Some(first) if is_same(&first) => NotSent { refusal: first, first_broken: None },
+        first_broken => NotSent { refusal: placed(file, refusal), first_broken },
     }
+}
+
+/// A refusal that prepare comes to before the judge does, with the field that breaks the rule by docs/RULES.md, 7.1.
+fn placed(file: &[u8], refusal: Refusal) -> Refusal {
+    let bytes = record(file, refusal.record).map_or(&[][..], |record| record.bytes);
+    let are_digits = |place: Range<usize>| bytes[place].iter().all(u8::is_ascii_digit);
+    let at = match refusal.number {
+        33 if are_digits(T14A) => T14B.start,
+        33 => T14A.start,
+        40 if !are_digits(Z3) => Z3.start,
+        40 if !are_digits(Z4) => Z4.start,
+        40 => Z4.end,
+        41 => Z4.start,
+        42 => Z3.start,
+        _ => 0,
+    };
+    Refusal { at: at as u64, ..refusal }
+}
+
+/// The other code page, where the file is sound on that one: it may be the office's.
+pub fn sound_elsewhere(way: Way, file: &[u8]) -> Option<Page> {
+    let other = match way.page {
+        Page::Din66003 => Page::Iso8859_1,
+        Page::Iso8859_1 => Page::Din66003,
+    };
+    desk::judge(other, file, way.lists, &[]).ok().map(|_| other)
 }
 
 impl Sent {

@@ -1,6 +1,6 @@
 //! The files that a command reads: a payment file or standard input, with progress on a terminal.
 
-use crate::common::{at_start, failed, joined, wrong, Failure};
+use crate::common::{at_start, failed, wrong, Failure};
 use desk::MOST_BYTES;
 use indicatif::{ProgressBar, ProgressStyle};
 use std::ffi::{OsStr, OsString};
@@ -95,9 +95,4 @@ pub fn bar(length: u64, told: &str) -> ProgressBar {
         _ => (ProgressBar::new(length), format!("{{bar:40}} {told}")),
     };
     bar.with_style(ProgressStyle::with_template(&template).expect("the template is right"))
-}
-
-/// Says that a word is an output: - is standard input alone.
-pub fn no_output(path: &Path) -> Failure {
-    joined(&[&path, &": is standard input; a file of that name is ./-"])
 }

@@ -10,6 +10,7 @@ mod commands;
 mod common;
 mod examine;
 mod faults;
+mod html;
 mod input;
 #[path = "../../hosts/rust/keeping.rs"]
 mod keeping;

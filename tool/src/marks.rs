@@ -5,7 +5,7 @@
 
 use crate::common::{Q, T, Z};
 use crate::records::range;
-use crate::sending::Way;
+use crate::sending::{payment, Way};
 use desk::{Columns, Refusal};
 
 /// What may stand in a byte's place: what most fields hold, and in a field of a line at most also digits and capitals.
@@ -23,43 +23,54 @@ impl Small {
     /// Of a file that the judge refuses: Q and record 1, and where it is another payment that breaks the rule, that one.
     pub fn of_judged(file: &[u8], refusal: Refusal) -> Small {
         let (front, z) = (&file[..Q + T], &file[file.len() - Z..]);
-        match (refusal.kind(), refusal.record as usize) {
+        match (refusal.kind(), refusal.record) {
             (Some('T'), record) if record > 1 => {
-                let begin = Q + T * (record - 1);
-                Small { file: [front, &file[begin..begin + T], z].concat(), begin: Q + T }
+                Small { file: [front, payment(file, record), z].concat(), begin: Q + T }
             }
-            (kind, _) => {
-                let begin = if kind == Some('Q') { 0 } else { Q + if kind == Some('Z') { T } else { 0 } };
-                Small { file: [front, z].concat(), begin }
-            }
+            (Some('Q'), _) => Small { file: [front, z].concat(), begin: 0 },
+            (Some('Z'), _) => Small { file: [front, z].concat(), begin: Q + T },
+            _ => Small { file: [front, z].concat(), begin: Q },
         }
     }
 }
 
-/// The columns of a field that are to be marked, because it breaks a rule.
+/// The columns of a field that are to be marked, because it breaks a rule. Where the judge stops at another rule of the record,
+/// it cannot be asked: then those bytes are marked that no such field may hold.
 pub fn marks(way: Way, small: &Small, refusal: Refusal, columns: Columns) -> Vec<u64> {
-    let Way { page, lists, .. } = way;
-    let answer = |file: &[u8]| desk::judge(page, file, lists, &[]).err();
-    let due = answer(&small.file).filter(|found| (found.number, found.at) == (refusal.number, refusal.at));
+    let answer = |file: &[u8]| desk::judge(way.page, file, way.lists, &[]).err();
+    let marked = match answer(&small.file) {
+        Some(due) if (due.number, due.at) == (refusal.number, refusal.at) => {
+            healing(small, columns, |file| answer(file).map_or(true, |found| order(found) > order(due)))
+        }
+        _ => unlike(small, columns),
+    };
+    match marked.is_empty() {
+        true => (columns.first..=columns.last).collect(),
+        false => marked,
+    }
+}
+
+/// The columns in which another byte alone heals the file.
+fn healing(small: &Small, columns: Columns, is_healed: impl Fn(&[u8]) -> bool) -> Vec<u64> {
+    let tried = if columns.last - columns.first < LINE { MANY } else { FEW };
     let mut copy = small.file.clone();
-    let mut heals = |offset: usize, due: Refusal| {
+    let mut heals = |offset: &usize| {
         let place = small.begin + offset;
-        let tried = if columns.last - columns.first < LINE { MANY } else { FEW };
         let healed = tried.iter().any(|&byte| {
             copy[place] = byte;
-            answer(&copy).map_or(true, |found| order(found) > order(due))
+            is_healed(&copy)
         });
         copy[place] = small.file[place];
         healed
     };
-    let alone: Vec<u64> = match due {
-        Some(due) => range(columns).filter(|&offset| heals(offset, due)).map(|offset| offset as u64 + 1).collect(),
-        None => Vec::new(),
-    };
-    match alone.is_empty() {
-        true => (columns.first..=columns.last).collect(),
-        false => alone,
-    }
+    range(columns).filter(|offset| heals(offset)).map(|offset| offset as u64 + 1).collect()
+}
+
+/// The columns of a field of digits that hold none, and of Z5, which is spaces, those that hold something else.
+fn unlike(small: &Small, columns: Columns) -> Vec<u64> {
+    let is_like = |byte: u8| if columns.field == "Z5" { byte == b' ' } else { byte.is_ascii_digit() };
+    let is_unlike = |offset: &usize| !is_like(small.file[small.begin + offset]);
+    range(columns).filter(is_unlike).map(|offset| offset as u64 + 1).collect()
 }
 
 /// Refusals in the order in which the judge comes to them.

@@ -9,7 +9,7 @@
 //! Where a step fails, what was made is removed, what was replaced is put back, and everything is as it was.
 
 use crate::common::{failed, joined, wrong, Failure};
-use crate::input::{no_output, Identity};
+use crate::input::Identity;
 use std::ffi::{CString, OsStr, OsString};
 use std::fs::{self, File, OpenOptions, Permissions};
 use std::io::{self, ErrorKind, Write};
@@ -116,7 +116,7 @@ impl Drop for Written {
 impl Target {
     fn new(path: &Path, read: &[Identity], is_forced: bool) -> Result<Target, Failure> {
         if path.as_os_str() == "-" {
-            return Err(no_output(path));
+            return Err(wrong(path, "is standard input; a file of that name is ./-"));
         }
         let [new_path, old_path] = [".new", ".old"].map(|end| PathBuf::from(joined(&[&path, &end])));
         let replaces = replaceable(path, read, is_forced)?;

@@ -12,16 +12,24 @@ pub struct Record<'a> {
     pub bytes: &'a [u8],
 }
 
+/// Where a record begins in a file.
+pub fn begin(number: u64) -> usize {
+    match number {
+        0 => 0,
+        _ => Q + T * (number as usize - 1),
+    }
+}
+
 /// Where a record stands in a file whose structure is right, and its kind; `None` where there is no such record.
 pub fn place(file: &[u8], number: u64) -> Option<(char, Range<usize>)> {
     let payments = (file.len().checked_sub(Q + Z)? / T) as u64;
-    let behind_q = |number: u64| Q + T * (number as usize - 1);
-    match number {
-        0 => Some(('Q', 0..Q)),
-        _ if number <= payments => Some(('T', behind_q(number)..behind_q(number) + T)),
-        _ if number == payments + 1 => Some(('Z', behind_q(number)..behind_q(number) + Z)),
-        _ => None,
-    }
+    let (kind, length) = match number {
+        0 => ('Q', Q),
+        _ if number <= payments => ('T', T),
+        _ if number == payments + 1 => ('Z', Z),
+        _ => return None,
+    };
+    Some((kind, begin(number)..begin(number) + length))
 }
 
 /// A record of a file whose structure is right.

@@ -1,7 +1,7 @@
 //! What each character becomes when a file is forwarded. The table is the desk's: it is asked of prepare.
 
 use crate::common::{Q, T};
-use desk::{Lists, Page};
+use desk::{Field, Lists, Page};
 
 /// A sound file, on both pages; T15 of its payments may hold any bytes.
 const SAMPLE: &[u8] = include_bytes!("../../samples/sound.dtazv");
@@ -20,6 +20,17 @@ pub fn replacements(page: Page) -> [u8; 256] {
     desk::prepare_strict(page, &file, Lists::ANNEXES, &mut forwarded, &mut notes).expect("no rule reads T15");
     let becomes = [&forwarded[halves[0].clone()], &forwarded[halves[1].clone()]].concat();
     becomes.try_into().expect("two halves are 256 bytes")
+}
+
+/// The bytes of a field as the rules read them, where that differs: those of text are read replaced.
+pub fn read_as(table: &[u8; 256], field: &str, bytes: &[u8]) -> Option<Vec<u8>> {
+    let replaced: Vec<u8> = bytes.iter().map(|&byte| table[byte as usize]).collect();
+    (is_text(field) && replaced != bytes).then_some(replaced)
+}
+
+/// Whether a field is one of text.
+pub fn is_text(field: &str) -> bool {
+    Field::ALL.iter().any(|text| text.to_string() == field)
 }
 
 #[cfg(test)]

@@ -1,12 +1,13 @@
 //! How answers are told: in words, or as JSON.
 
-use crate::common::{told, Failure};
+use crate::common::{told, Failure, Z};
 use crate::examine::{ChangedLine, NotSent};
 use crate::faults::{self, Fault};
-use crate::records::{lines, range};
+use crate::records::{begin, lines, range};
 use crate::sending::Way;
+use crate::table::read_as;
 use crate::text::{amount, text, whole_text, PAYEE};
-use desk::{Columns, Field, Page, Refusal};
+use desk::{Columns, Page, Refusal};
 use serde_json::{json, Value};
 use std::ffi::OsStr;
 use std::io::{self, Write};
@@ -53,10 +54,9 @@ pub struct Shown<'a> {
 }
 
 impl Shown<'_> {
-    /// A field's bytes as the rules read them, where that differs: those of text are read replaced.
+    /// A field's text as the rules read it, where that differs.
     pub fn read_as(&self, field: &str, bytes: &[u8]) -> Option<String> {
-        let replaced: Vec<u8> = bytes.iter().map(|&byte| self.table[byte as usize]).collect();
-        (is_text(field) && replaced != bytes).then(|| whole_text(self.page, &replaced))
+        read_as(self.table, field, bytes).map(|read| whole_text(self.page, &read))
     }
 
     /// A field that breaks a rule, line by line, with marks under what is the fault.
@@ -81,6 +81,34 @@ impl Shown<'_> {
         }
     }
 
+    /// Why a file is refused: the rule, and the field with its bytes; or where the structure is broken, the bytes there.
+    pub fn refused(&self, refusal: Refusal, fault: Option<&Fault>, file: &[u8], out: &mut dyn Write) -> io::Result<()> {
+        writeln!(out, "refused on {}: {refusal}", self.page)?;
+        match (fault, refusal.number) {
+            (Some(fault), _) => self.fault(fault, out),
+            (None, 2..=5) => self.stop(refusal, file, out),
+            (None, _) => Ok(()),
+        }
+    }
+
+    /// Where the walk over the records stopped: at which byte that record begins, and what stands there.
+    fn stop(&self, refusal: Refusal, file: &[u8], out: &mut dyn Write) -> io::Result<()> {
+        let Refusal { number, record, .. } = refusal;
+        let begin = begin(record);
+        let left = file.len() - begin;
+        writeln!(out, "    record {record} is due behind {begin} bytes; {left} bytes of the file are left")?;
+        let first = if number == 5 { Z } else { 0 };
+        let last = left.min(first + 35);
+        match last - first {
+            0 => Ok(()),
+            _ => {
+                let line = Columns { field: "", first: first as u64 + 1, last: last as u64 };
+                let text = whole_text(self.page, &file[begin + first..begin + last]);
+                writeln!(out, "    {}  \"{text}\"", columns_of(line))
+            }
+        }
+    }
+
     /// The same for machines.
     pub fn fault_json(&self, fault: &Fault) -> Value {
         let bytes = &fault.record.bytes[range(fault.columns)];
@@ -96,10 +124,6 @@ impl Shown<'_> {
             "due": fault.due,
         })
     }
-}
-
-pub fn is_text(field: &str) -> bool {
-    Field::ALL.iter().any(|text| text.to_string() == field)
 }
 
 pub fn hex(bytes: &[u8]) -> String {
@@ -122,10 +146,8 @@ pub fn refusal_json(refusal: Refusal) -> Value {
 
 /// Tells why nothing goes on, with the field that is to blame.
 pub fn not_sent(way: Way, file: &[u8], not_sent: &NotSent, shown: &Shown, out: &mut dyn Write) -> io::Result<()> {
-    writeln!(out, "refused on {}: {}", way.page, not_sent.refusal)?;
-    if let Some(fault) = faults::judged(way, file, not_sent.refusal) {
-        shown.fault(&fault, out)?;
-    }
+    let fault = faults::judged(way, file, not_sent.refusal);
+    shown.refused(not_sent.refusal, fault.as_ref(), file, out)?;
     match not_sent.first_broken {
         Some(first) => writeln!(out, "first broken: {first}"),
         None => Ok(()),

@@ -53,7 +53,7 @@ pub fn take(words: &cli::Take, is_json: bool) -> Result<End, Failure> {
     let countries = Countries::of(words.reading.lists.lists.as_deref())?;
     let way = way(&words.reading, &countries, words.strict);
     let file = Input::open(&words.file)?.read()?;
-    let sent = match send(way, &file, desk::judge(way.page, &file, way.lists, &[]))? {
+    let sent = match send(way, &file)? {
         Ok(sent) => sent,
         Err(not_sent) => {
             let shown = Shown { page: way.page, table: &replacements(way.page) };

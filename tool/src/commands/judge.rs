@@ -3,13 +3,14 @@
 use super::way;
 use crate::cli;
 use crate::common::Failure;
+use crate::examine::sound_elsewhere;
 use crate::faults;
 use crate::input::Input;
 use crate::lists::Countries;
 use crate::sending::{self, Way};
 use crate::table::replacements;
 use crate::tell::{name, refusal_json, tell, End, Shown};
-use desk::{Answer, Page, Prepared, Reader, Refusal};
+use desk::{Answer, Prepared, Reader, Refusal};
 use serde_json::json;
 use std::ffi::OsStr;
 
@@ -55,7 +56,7 @@ fn sound(way: Way, input: &OsStr, file: &[u8], answer: Answer, is_json: bool) ->
 fn refused(way: Way, input: &OsStr, file: &[u8], refusal: Refusal, is_json: bool) -> Result<End, Failure> {
     let shown = Shown { page: way.page, table: &replacements(way.page) };
     let fault = faults::judged(way, file, refusal);
-    let sorted = sorted(way, file, refusal);
+    let sorted = sorted(way, file);
     let other_page = sound_elsewhere(way, file);
     let told = json!({
         "command": "judge",
@@ -68,10 +69,7 @@ fn refused(way: Way, input: &OsStr, file: &[u8], refusal: Refusal, is_json: bool
         "sound_on_page": other_page.map(|page| page as u32),
     });
     tell(is_json, &told, |out| {
-        writeln!(out, "refused on {}: {refusal}", way.page)?;
-        if let Some(fault) = &fault {
-            shown.fault(fault, out)?;
-        }
+        shown.refused(refusal, fault.as_ref(), file, out)?;
         if let Some(Prepared { kept, returned, .. }) = sorted {
             writeln!(out, "prepare would send {kept} payments on, and {returned} would come back")?;
         }
@@ -84,17 +82,7 @@ fn refused(way: Way, input: &OsStr, file: &[u8], refusal: Refusal, is_json: bool
 }
 
 /// What prepare's default way would do with a file in which a payment breaks a rule; nothing where it refuses it too.
-fn sorted(way: Way, file: &[u8], refusal: Refusal) -> Option<Prepared> {
-    let way = Way { is_strict: false, ..way };
-    let prepared = sending::prepare(way, file, Err(refusal)).ok();
-    prepared.map(|(_, figures)| figures)
-}
-
-/// The other page, where the file is sound on that one.
-fn sound_elsewhere(way: Way, file: &[u8]) -> Option<Page> {
-    let other = match way.page {
-        Page::Din66003 => Page::Iso8859_1,
-        Page::Iso8859_1 => Page::Din66003,
-    };
-    desk::judge(other, file, way.lists, &[]).ok().map(|_| other)
+fn sorted(way: Way, file: &[u8]) -> Option<Prepared> {
+    let prepared = sending::prepare(Way { is_strict: false, ..way }, file);
+    prepared.ok().map(|(_, figures)| figures)
 }

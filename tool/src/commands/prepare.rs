@@ -49,7 +49,7 @@ pub fn prepare(words: &cli::Prepare, is_json: bool) -> Result<End, Failure> {
     let outputs = Outputs::plan(&paths, &read, words.replacing.force)?;
     let file = input.read()?;
     let shown = Shown { page: way.page, table: &replacements(way.page) };
-    let sent = match send(way, &file, desk::judge(way.page, &file, way.lists, &[]))? {
+    let sent = match send(way, &file)? {
         Ok(sent) => sent,
         Err(not_sent) => return refused(way, words, &file, &not_sent, &shown, is_json),
     };
