@@ -14,7 +14,7 @@ pub struct Words {
     #[command(subcommand)]
     pub command: Command,
 
-    /// Tell everything as JSON, for machines
+    /// Tell the answer as JSON, for machines; what cannot be done is told in words on standard error
     #[arg(long, global = true)]
     pub json: bool,
 }
@@ -39,6 +39,7 @@ Send forwarded.dtazv. Keep payments.dtazv and payments.notes: payments that
 come back are in payments.dtazv alone, and need a file with a new number.
 
 Where umlauts come out as spaces, the file is on the other code page: --page 0.
+Of a file from which payments came back, restore gives back what went on.
 
 Exit status: 0 done; 1 refused; 2 used wrongly, or could not read or write.
 No existing file is written over without --force, and no file that was read.";
@@ -60,6 +61,8 @@ pub enum Command {
         #[command(subcommand)]
         work: BookWork,
     },
+    /// Print the countries by which files are judged, as a file of --lists has them
+    Countries(CountriesOf),
     /// Print completions for a shell
     Completions { shell: Shell },
 }
@@ -84,8 +87,8 @@ pub struct Reading {
 
 #[derive(Args)]
 pub struct ListsFrom {
-    /// A folder with other country lists: transfer.txt and cheque.txt, two capitals a country. Without it: the receiver's
-    /// Annex II and Annex I
+    /// A folder with other country lists than the receiver's Annex II and Annex I: transfer.txt and cheque.txt, with two
+    /// capitals a country, spaces or line ends between them, and # before a comment
     #[arg(long, value_name = "DIR")]
     pub lists: Option<PathBuf>,
 }
@@ -102,7 +105,7 @@ pub struct Prepare {
     /// The payment file; - is standard input
     pub file: PathBuf,
     /// Where the forwarded file goes
-    #[arg(long, value_name = "F")]
+    #[arg(short, long, value_name = "F")]
     pub out: PathBuf,
     /// Where its notes go; keep them, for restore needs them
     #[arg(long, value_name = "N")]
@@ -130,7 +133,7 @@ pub struct Restore {
     #[arg(long, value_name = "N")]
     pub notes: PathBuf,
     /// Where the restored file goes
-    #[arg(long, value_name = "F")]
+    #[arg(short, long, value_name = "F")]
     pub out: PathBuf,
     #[command(flatten)]
     pub lists: ListsFrom,
@@ -160,7 +163,7 @@ pub struct PageOf {
     #[arg(short, long, value_name = "HTML")]
     pub out: PathBuf,
     /// The language of the page
-    #[arg(long, value_enum, default_value = "en")]
+    #[arg(long, value_enum, ignore_case = true, default_value = "en")]
     pub lang: Lang,
     #[command(flatten)]
     pub reading: Reading,
@@ -193,7 +196,8 @@ pub enum BookWork {
 pub struct Take {
     /// The book file
     pub book: PathBuf,
-    /// The business day, which the office counts
+    /// The business day, which the office counts: never an earlier one than before. A number is held on five days, this one
+    /// included
     #[arg(value_parser = day)]
     pub day: u32,
     /// The payment file; - is standard input
@@ -201,8 +205,20 @@ pub struct Take {
     /// Take it only where the whole file goes on
     #[arg(long)]
     pub strict: bool,
+    /// Take it although the day is more than 20 after the book's
+    #[arg(long)]
+    pub jump: bool,
     #[command(flatten)]
     pub reading: Reading,
+}
+
+#[derive(Args)]
+pub struct CountriesOf {
+    /// Those of transfers, or those of cheques
+    #[arg(value_enum)]
+    pub kind: Kind,
+    #[command(flatten)]
+    pub lists: ListsFrom,
 }
 
 #[derive(Clone, Copy, ValueEnum)]
@@ -213,6 +229,12 @@ pub enum PageNumber {
     /// ISO 8859-1: hex C4, D6, DC and DF
     #[value(name = "1")]
     Iso8859_1,
+}
+
+#[derive(Clone, Copy, ValueEnum)]
+pub enum Kind {
+    Transfer,
+    Cheque,
 }
 
 #[derive(Clone, Copy, PartialEq, Eq, ValueEnum)]

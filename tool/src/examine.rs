@@ -1,11 +1,17 @@
 //! What the desk says of a file that is to go on: judged, prepared, and restored again to show that nothing is lost.
 
-use crate::common::{Failure, Q, T};
+use crate::common::{Failure, Q, T, Z};
 use crate::records::{lines, range, record};
-use crate::sending::{self, put_together, returned_at, Outgoing, Way, Z3, Z4};
-use crate::text::{T14A, T14B};
+use crate::sending::{self, payment, put_together, returned_at, Outgoing, Way, Z3, Z4};
+use crate::table::{replacements, SAMPLE};
+use crate::text::{number, T14A, T14B};
 use desk::{Columns, Note, Page, Prepared, Refusal};
 use std::ops::Range;
+
+/// Where fields stand in a T record; of T10a the letters.
+const T3: Range<usize> = 5..13;
+const T4B: Range<usize> = 16..26;
+const T10A: Range<usize> = 207..209;
 
 /// What goes on of a file, and what comes back.
 pub struct Sent {
@@ -22,6 +28,8 @@ pub struct Sent {
 pub struct NotSent {
     pub refusal: Refusal,
     pub first_broken: Option<Refusal>,
+    /// Why each payment would come back, where all would; and a forwarded file with a sound payment, to ask about them.
+    pub all_back: Option<(Vec<u8>, Vec<Refusal>)>,
 }
 
 /// A line of a text field in which characters are changed.
@@ -37,10 +45,7 @@ pub struct ChangedLine<'a> {
 pub fn send(way: Way, file: &[u8]) -> Result<Result<Sent, NotSent>, Failure> {
     let (outgoing, figures) = match sending::prepare(way, file) {
         Ok(prepared) => prepared,
-        Err(refusal) => {
-            let judged = desk::judge(way.page, file, way.lists, &[]);
-            return Ok(Err(not_sent(file, refusal, judged.err())));
-        }
+        Err(refusal) => return Ok(Err(not_sent(way, file, refusal))),
     };
     let Outgoing { forwarded, notes, returned } = outgoing;
     let mut original = vec![0; forwarded.len()];
@@ -53,11 +58,13 @@ pub fn send(way: Way, file: &[u8]) -> Result<Result<Sent, NotSent>, Failure> {
 }
 
 /// Prepare tells no field; the judge does, where it stops at the same rule.
-fn not_sent(file: &[u8], refusal: Refusal, first: Option<Refusal>) -> NotSent {
+fn not_sent(way: Way, file: &[u8], refusal: Refusal) -> NotSent {
+    let first = desk::judge(way.page, file, way.lists, &[]).err();
     let is_same = |first: &Refusal| (first.number, first.record) == (refusal.number, refusal.record);
+    let all_back = (refusal.number == 43).then(|| all_back(way, file)).flatten();
     match first {
-        Some(first) if is_same(&first) => NotSent { refusal: first, first_broken: None },
-        first_broken => NotSent { refusal: placed(file, refusal), first_broken },
+        Some(first) if is_same(&first) => NotSent { refusal: first, first_broken: None, all_back },
+        first_broken => NotSent { refusal: placed(file, refusal), first_broken, all_back },
     }
 }
 
@@ -80,11 +87,46 @@ fn placed(file: &[u8], refusal: Refusal) -> Refusal {
 
 /// The other code page, where the file is sound on that one: it may be the office's.
 pub fn sound_elsewhere(way: Way, file: &[u8]) -> Option<Page> {
-    let other = match way.page {
+    let other = other_page(way.page);
+    desk::judge(other, file, way.lists, &[]).ok().map(|_| other)
+}
+
+/// How many changed characters become spaces, and would be letters on the other code page: then that may be the office's.
+pub fn letters_elsewhere(page: Page, notes: &[u32]) -> usize {
+    let [here, there] = [page, other_page(page)].map(replacements);
+    let originals = notes.iter().map(|&note| usize::from(Note::from(note).original));
+    originals.filter(|&byte| here[byte] == b' ' && there[byte] != b' ').count()
+}
+
+pub fn other_page(page: Page) -> Page {
+    match page {
         Page::Din66003 => Page::Iso8859_1,
         Page::Iso8859_1 => Page::Din66003,
-    };
-    desk::judge(other, file, way.lists, &[]).ok().map(|_| other)
+    }
+}
+
+/// Why each payment comes back, where all of them would (43) and prepare gives no list: it does of the same file with a sound
+/// payment behind them. Beside the list stands the forwarded file, which is that payment; nothing where it comes back too.
+fn all_back(way: Way, file: &[u8]) -> Option<(Vec<u8>, Vec<Refusal>)> {
+    let helped = with_sound_payment(way, file)?;
+    let (outgoing, _) = sending::prepare(Way { is_strict: false, ..way }, &helped).ok()?;
+    let Outgoing { forwarded, returned, .. } = outgoing;
+    let returned = returned.iter().map(|&number| returned_at(way, file, &forwarded, number)).collect();
+    Some((forwarded, returned))
+}
+
+/// The file with one payment more, of record 1's account and to a listed country, and with it in the totals; nothing where Z
+/// has no room for them.
+fn with_sound_payment(way: Way, file: &[u8]) -> Option<Vec<u8>> {
+    let (front, z) = file.split_at(file.len() - Z);
+    let mut more = payment(SAMPLE, 1).to_vec();
+    for place in [T3, T4B] {
+        more[place.clone()].copy_from_slice(&payment(file, 1)[place]);
+    }
+    more[T10A].copy_from_slice(way.lists.transfer.get(..2)?);
+    let (euros, payments) = (number(&z[Z3]) + number(&more[T14A]), number(&z[Z4]) + 1);
+    let totals = format!("{euros:015}{payments:015}");
+    (totals.len() == 30).then(|| [front, &more, &z[..Z3.start], totals.as_bytes(), &z[Z4.end..]].concat())
 }
 
 impl Sent {

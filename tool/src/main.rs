@@ -16,6 +16,7 @@ mod input;
 mod keeping;
 mod lists;
 mod marks;
+mod names;
 mod notes;
 mod outputs;
 mod records;
@@ -28,10 +29,14 @@ mod tell;
 mod text;
 
 use clap::Parser;
+use std::io::Write;
 use std::process::ExitCode;
 
 fn main() -> ExitCode {
-    let words = cli::Words::parse();
-    let done = commands::run(&words).map(|end| end as u8);
-    common::ended(done.map_err(|line| common::joined(&[&"kaaravizhe: ", &line])))
+    let done = match cli::Words::try_parse() {
+        Ok(words) => commands::run(&words).map(|end| end as u8),
+        Err(asked) if !asked.use_stderr() => common::told(|out| write!(out, "{asked}")).map(|()| 0), // help, version
+        Err(misused) => misused.exit(),
+    };
+    common::ended(done.map_err(|line| names::plain(common::joined(&[&"kaaravizhe: ", &line])).into()))
 }

@@ -149,7 +149,7 @@ impl<'a> Lines<'a> {
             Some(version) if !version.is_empty() && version.iter().all(u8::is_ascii_digit) => {
                 Err(self.flaw(format!("another version of the layout; this desk reads version {VERSION}")))
             }
-            _ => Err(self.flaw(format!("malformed; due is {NAME}{VERSION}"))),
+            _ => Err(self.flaw(format!("malformed; due is {NAME}{VERSION} and a line end (LF)"))),
         }
     }
 
@@ -157,7 +157,7 @@ impl<'a> Lines<'a> {
     fn next<T>(&mut self, word: &str, due: &str, value: impl FnOnce(&[u8]) -> Option<T>) -> Result<T, Flaw> {
         let line = self.line()?;
         let value = line.strip_prefix(word.as_bytes()).and_then(value);
-        value.ok_or_else(|| self.flaw(format!("malformed; due is {word}and then {due}")))
+        value.ok_or_else(|| self.flaw(format!("malformed; due is {word}and then {due} and a line end (LF)")))
     }
 
     /// Reads as many notes as there have to be.
@@ -170,7 +170,11 @@ impl<'a> Lines<'a> {
                 None if line.starts_with(b"SHA-256 ") => {
                     return Err(self.flaw(format!("notes are missing: {count} are due, and {} are there", notes.len())))
                 }
-                None => return Err(self.flaw("malformed; due is a note: 7 digits, a space and 2 hex digits")),
+                None => {
+                    return Err(
+                        self.flaw("malformed; due is a note: 7 digits, a space, 2 hex digits and a line end (LF)")
+                    )
+                }
             }
         }
         match self.rest.split(|&byte| byte == b'\n').next().and_then(note) {
@@ -264,13 +268,19 @@ SHA-256 c97df4d9a9ebd9dc29639db21b42707391fd13d33cd71acbad1bd61fc919b2bc
         assert_eq!(flaw(b""), "line 1: this is no notes file of the desk");
         assert_eq!(flaw(b"KAARAVIZHE BOOK 2\n"), "line 1: this is no notes file of the desk");
         assert_eq!(flaw(b"KAARAVIZHE NOTES 2\n"), "line 1: another version of the layout; this desk reads version 1");
-        assert_eq!(flaw(b"KAARAVIZHE NOTES 1\r\n"), format!("line 1: {due} KAARAVIZHE NOTES 1"));
+        assert_eq!(flaw(b"KAARAVIZHE NOTES 1\r\n"), format!("line 1: {due} KAARAVIZHE NOTES 1 and a line end (LF)"));
         assert_eq!(flaw(b"KAARAVIZHE NOTES 1\nPAGE"), "line 2: the notes are cut short here");
-        assert_eq!(flaw(&with(2, "PAGE 2")), format!("line 2: {due} PAGE and then 0 or 1"));
-        assert_eq!(flaw(&with(6, "RETURNED 00000")), format!("line 6: {due} RETURNED and then 4 digits"));
+        assert_eq!(flaw(&with(2, "PAGE 2")), format!("line 2: {due} PAGE and then 0 or 1 and a line end (LF)"));
+        assert_eq!(
+            flaw(&with(6, "RETURNED 00000")),
+            format!("line 6: {due} RETURNED and then 4 digits and a line end (LF)")
+        );
         assert_eq!(flaw(&with(9, "NOTES 0000004")), "line 13: notes are missing: 4 are due, and 3 are there");
         assert_eq!(flaw(&with(9, "NOTES 0000002")), "line 12: a note too many: 2 are due");
-        assert_eq!(flaw(&with(11, "0001235 2a")), format!("line 11: {due} a note: 7 digits, a space and 2 hex digits"));
+        assert_eq!(
+            flaw(&with(11, "0001235 2a")),
+            format!("line 11: {due} a note: 7 digits, a space, 2 hex digits and a line end (LF)")
+        );
         assert_eq!(flaw(&with(11, "0001235 2A")), "none");
         let changed = EXAMPLE.replace("0001235 26", "0001235 2A");
         assert_eq!(flaw(changed.as_bytes()), "line 13: the lines before it were changed: they have another SHA-256");

@@ -4,7 +4,7 @@ use crate::common::{Q, T};
 use desk::{Field, Lists, Page};
 
 /// A sound file, on both pages; T15 of its payments may hold any bytes.
-const SAMPLE: &[u8] = include_bytes!("../../samples/sound.dtazv");
+pub const SAMPLE: &[u8] = include_bytes!("../../samples/sound.dtazv");
 
 /// Where T15 begins in a T record.
 const T15: usize = 475;

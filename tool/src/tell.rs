@@ -1,17 +1,19 @@
 //! How answers are told: in words, or as JSON.
 
-use crate::common::{told, Failure, Z};
-use crate::examine::{ChangedLine, NotSent};
+use crate::cli::Lang;
+use crate::common::{told, Failure};
+use crate::examine::{letters_elsewhere, other_page, ChangedLine, NotSent};
 use crate::faults::{self, Fault};
+use crate::html::{blamed, what_is_wrong, words};
+use crate::input::bar;
 use crate::records::{begin, lines, range};
-use crate::sending::Way;
+use crate::sending::{payment, Way};
 use crate::table::read_as;
-use crate::text::{amount, text, whole_text, PAYEE};
-use desk::{Columns, Page, Refusal};
+use crate::text::{amount, number, text, whole_text, PAYEE, T14A, T14B};
+use desk::{Columns, Page, Refusal, M8_CODES};
 use serde_json::{json, Value};
 use std::ffi::OsStr;
 use std::io::{self, Write};
-use std::ops::Range;
 
 /// How a command ends, where nothing failed: the status.
 #[derive(Clone, Copy)]
@@ -47,6 +49,25 @@ pub fn name(name: impl AsRef<OsStr>) -> Value {
     json!(name.as_ref().to_string_lossy())
 }
 
+/// `code page 1 (ISO 8859-1)`: there is another page, to look at.
+pub fn code_page(page: Page) -> String {
+    format!("code {page}")
+}
+
+/// Where changed characters become spaces, and would be letters on the other code page, says so.
+pub fn tell_letters_elsewhere(page: Page, notes: &[u32], out: &mut dyn Write) -> io::Result<()> {
+    let other = other_page(page);
+    match letters_elsewhere(page, notes) {
+        0 => Ok(()),
+        count => writeln!(
+            out,
+            "look: {count} of them become spaces, and on {} letters: if that is the office's, add --page {}",
+            code_page(other),
+            other as u32
+        ),
+    }
+}
+
 /// What is shown of a field: as a page reads it, and as the rules read it.
 pub struct Shown<'a> {
     pub page: Page,
@@ -59,57 +80,86 @@ impl Shown<'_> {
         read_as(self.table, field, bytes).map(|read| whole_text(self.page, &read))
     }
 
+    /// A line of a field with its columns, marks under some of them, and below it what it is read as, where that differs.
+    pub fn line(
+        &self,
+        line: Columns,
+        bytes: &[u8],
+        is_marked: impl Fn(u64) -> bool,
+        out: &mut dyn Write,
+    ) -> io::Result<()> {
+        let front = format!("    {}  ", columns_of(line));
+        let width = front.chars().count();
+        writeln!(out, "{front}\"{}\"", whole_text(self.page, bytes))?;
+        let mark = |column| if is_marked(column) { '^' } else { ' ' };
+        let marks: String = (line.first..=line.last).map(mark).collect();
+        if marks.contains('^') {
+            writeln!(out, "{:width$} {}", "", marks.trim_end())?;
+        }
+        match self.read_as(line.field, bytes) {
+            Some(text) => writeln!(out, "{:>width$}\"{text}\"", "read as  "),
+            None => Ok(()),
+        }
+    }
+
     /// A field that breaks a rule, line by line, with marks under what is the fault.
     pub fn fault(&self, fault: &Fault, out: &mut dyn Write) -> io::Result<()> {
         for line in lines(fault.columns) {
-            let bytes = &fault.record.bytes[range(line)];
-            let front = format!("    {}  ", columns_of(line));
-            writeln!(out, "{front}\"{}\"", whole_text(self.page, bytes))?;
-            let width = front.chars().count();
-            let is_marked = |column: u64| if fault.marked.contains(&column) { '^' } else { ' ' };
-            let marked: String = (line.first..=line.last).map(is_marked).collect();
-            if marked.contains('^') {
-                writeln!(out, "{:width$} {}", "", marked.trim_end())?;
-            }
-            if let Some(text) = self.read_as(line.field, bytes) {
-                writeln!(out, "{:>width$}\"{text}\"", "read as  ")?;
-            }
+            self.line(line, &fault.record.bytes[range(line)], |column| fault.marked.contains(&column), out)?;
         }
         match fault.due {
-            Some(due) => writeln!(out, "    with {due} in {} this rule is kept", fault.columns.field),
+            Some(due) => writeln!(out, "    with {due:015} in {} this rule is kept", fault.columns.field),
             None => Ok(()),
         }
     }
 
     /// Why a file is refused: the rule, and the field with its bytes; or where the structure is broken, the bytes there.
     pub fn refused(&self, refusal: Refusal, fault: Option<&Fault>, file: &[u8], out: &mut dyn Write) -> io::Result<()> {
-        writeln!(out, "refused on {}: {refusal}", self.page)?;
+        writeln!(out, "refused on {}: {refusal}", code_page(self.page))?;
         match (fault, refusal.number) {
             (Some(fault), _) => self.fault(fault, out),
-            (None, 2..=5) => self.stop(refusal, file, out),
+            (None, 1..=5) => self.stop(refusal, file, out),
             (None, _) => Ok(()),
         }
     }
 
-    /// Where the walk over the records stopped: at which byte that record begins, and what stands there.
+    /// Where the walk over the records stopped: what is wrong there, and the bytes, by the columns of the record that is due.
     fn stop(&self, refusal: Refusal, file: &[u8], out: &mut dyn Write) -> io::Result<()> {
-        let Refusal { number, record, .. } = refusal;
-        let begin = begin(record);
-        let left = file.len() - begin;
-        writeln!(out, "    record {record} is due behind {begin} bytes; {left} bytes of the file are left")?;
-        let first = if number == 5 { Z } else { 0 };
-        let last = left.min(first + 35);
-        match last - first {
-            0 => Ok(()),
-            _ => {
-                let line = Columns { field: "", first: first as u64 + 1, last: last as u64 };
-                let text = whole_text(self.page, &file[begin + first..begin + last]);
-                writeln!(out, "    {}  \"{text}\"", columns_of(line))
-            }
+        let quoted = |bytes: &[u8]| format!("\"{}\"", whole_text(self.page, bytes));
+        writeln!(out, "    {}", what_is_wrong(words(Lang::En), file, refusal, quoted))?;
+        let blamed = blamed(file, refusal);
+        let begin = begin(refusal.record);
+        let first = if refusal.number == 5 { blamed.start } else { begin };
+        let bytes = &file[first.min(file.len())..file.len().min(first + 35)];
+        if refusal.number == 1 || bytes.is_empty() {
+            return Ok(());
+        }
+        let columns =
+            Columns { field: "", first: (first - begin) as u64 + 1, last: (first - begin + bytes.len()) as u64 };
+        self.line(columns, bytes, |column| blamed.contains(&(begin + column as usize - 1)), out)?;
+        match bytes.iter().any(|byte| matches!(byte, b'\n' | b'\r')) {
+            true => writeln!(out, "    {}", words(Lang::En).line_end),
+            false => Ok(()),
         }
     }
 
-    /// The same for machines.
+    /// Why a file is refused, for machines.
+    pub fn refused_json(&self, refusal: Refusal, fault: Option<&Fault>, file: &[u8]) -> Value {
+        let quoted = |bytes: &[u8]| format!("\"{}\"", whole_text(self.page, bytes));
+        let stopped = || {
+            json!({
+                "record_begins_at": begin(refusal.record),
+                "words": what_is_wrong(words(Lang::En), file, refusal, quoted),
+            })
+        };
+        json!({
+            "refusal": refusal_json(refusal),
+            "fault": fault.map(|fault| self.fault_json(fault)),
+            "structure": (1..=5).contains(&refusal.number).then(stopped),
+        })
+    }
+
+    /// A field that breaks a rule, for machines.
     pub fn fault_json(&self, fault: &Fault) -> Value {
         let bytes = &fault.record.bytes[range(fault.columns)];
         let Columns { field, first, last } = fault.columns;
@@ -144,10 +194,13 @@ pub fn refusal_json(refusal: Refusal) -> Value {
     json!({ "number": refusal.number, "words": refusal.words(), "record": refusal.record, "kind": kind })
 }
 
-/// Tells why nothing goes on, with the field that is to blame.
+/// Tells why nothing goes on, with the field that is to blame; where all payments would come back, why each would.
 pub fn not_sent(way: Way, file: &[u8], not_sent: &NotSent, shown: &Shown, out: &mut dyn Write) -> io::Result<()> {
     let fault = faults::judged(way, file, not_sent.refusal);
     shown.refused(not_sent.refusal, fault.as_ref(), file, out)?;
+    if let Some((forwarded, returned)) = &not_sent.all_back {
+        return ComesBack::of(way, file, forwarded, returned).iter().try_for_each(|back| back.words(shown, out));
+    }
     match not_sent.first_broken {
         Some(first) => writeln!(out, "first broken: {first}"),
         None => Ok(()),
@@ -156,55 +209,90 @@ pub fn not_sent(way: Way, file: &[u8], not_sent: &NotSent, shown: &Shown, out: &
 
 /// The same for machines.
 pub fn not_sent_json(way: Way, file: &[u8], not_sent: &NotSent, shown: &Shown) -> Value {
-    json!({
-        "refusal": refusal_json(not_sent.refusal),
-        "fault": faults::judged(way, file, not_sent.refusal).map(|fault| shown.fault_json(&fault)),
-        "first_broken": not_sent.first_broken.map(refusal_json),
-    })
+    let fault = faults::judged(way, file, not_sent.refusal);
+    let mut told = shown.refused_json(not_sent.refusal, fault.as_ref(), file);
+    let returned = not_sent.all_back.as_ref().map(|(forwarded, returned)| {
+        let returned = ComesBack::of(way, file, forwarded, returned);
+        returned.iter().map(|back| back.json(shown)).collect::<Vec<Value>>()
+    });
+    add(&mut told, json!({ "first_broken": not_sent.first_broken.map(refusal_json), "returned": returned }));
+    told
 }
 
-/// A payment that comes back: why, and where it is asked for, its M8 record.
+/// From how many payments on that come back progress is shown.
+const MANY: usize = 1000;
+
+/// A payment that comes back, and why.
 pub struct ComesBack<'a> {
     pub refusal: Refusal,
-    pub fault: Option<&'a Fault<'a>>,
+    pub fault: Option<Fault<'a>>,
     pub payment: &'a [u8],
-    pub m8: Option<&'a [u8]>,
 }
 
-impl ComesBack<'_> {
-    /// Its amount, its payee, the rule, the field in which it breaks that, and the M8 code.
+impl<'a> ComesBack<'a> {
+    /// All of them, with the fields that are to blame; the forwarded file has a sound payment, behind which each is judged.
+    pub fn of(way: Way, file: &'a [u8], forwarded: &[u8], returned: &[Refusal]) -> Vec<ComesBack<'a>> {
+        let progress =
+            (returned.len() >= MANY).then(|| bar(returned.len() as u64, "{pos} of {len} payments looked at"));
+        let one = |&refusal: &Refusal| {
+            progress.iter().for_each(|progress| progress.inc(1));
+            let (fault, payment) = (faults::returned(way, file, forwarded, refusal), payment(file, refusal.record));
+            ComesBack { refusal, fault, payment }
+        };
+        let all = returned.iter().map(one).collect();
+        progress.iter().for_each(|progress| progress.finish_and_clear());
+        all
+    }
+
+    /// Its amount, its payee, the rule, the field in which it breaks that, and the code of an M8 record.
     pub fn words(&self, shown: &Shown, out: &mut dyn Write) -> io::Result<()> {
         let (amount, payee) = (amount(self.payment), text(shown.page, &self.payment[PAYEE]));
-        writeln!(out, "record {} comes back: {amount} euros to \"{payee}\"", self.refusal.record)?;
+        let (record, kind) = (self.refusal.record, self.kind());
+        writeln!(out, "record {record} comes back: {kind}, {amount} euros to \"{payee}\"")?;
         writeln!(out, "    {}", self.refusal)?;
-        if let Some(fault) = self.fault {
+        if let Some(fault) = &self.fault {
             shown.fault(fault, out)?;
         }
-        match self.code() {
-            Some((code, meaning)) => writeln!(out, "    M8 code {code}: {meaning}"),
-            None => Ok(()),
-        }
+        let (code, meaning) = self.code();
+        writeln!(out, "    M8 code {code}: {meaning}")
     }
 
     /// The same for machines.
     pub fn json(&self, shown: &Shown) -> Value {
         json!({
             "record": self.refusal.record,
-            "amount": amount(self.payment),
+            "kind": self.kind(),
+            "euros": number(&self.payment[T14A]),
+            "cents": number(&self.payment[T14B]) / 10,
             "payee": text(shown.page, &self.payment[PAYEE]),
             "refusal": refusal_json(self.refusal),
-            "fault": self.fault.map(|fault| shown.fault_json(fault)),
-            "m8_code": self.code().map(|(code, _)| code),
+            "fault": self.fault.as_ref().map(|fault| shown.fault_json(fault)),
+            "m8_code": self.code().0,
         })
     }
 
+    /// What T22 says of it (docs/RULES.md, 2.3).
+    fn kind(&self) -> &'static str {
+        match &self.payment[650..652] {
+            b"00" => "transfer",
+            b"20" | b"22" => "cheque",
+            _ => "neither transfer nor cheque",
+        }
+    }
+
     /// The code of its M8 record, and what that means.
-    fn code(&self) -> Option<(String, &'static str)> {
-        const M8_CODE: Range<usize> = 56..62;
-        let code = &self.m8?[M8_CODE];
-        Some((String::from_utf8_lossy(code).into(), desk::m8_meaning(code).unwrap_or("?")))
+    pub fn code(&self) -> (&'static str, &'static str) {
+        let place = (self.refusal.number as usize - 20) * 6;
+        let code = &CODES[place..place + 6];
+        (code, desk::m8_meaning(code.as_bytes()).unwrap_or("?"))
     }
 }
+
+/// The codes as text.
+const CODES: &str = match std::str::from_utf8(&M8_CODES) {
+    Ok(codes) => codes,
+    Err(_) => panic!("the codes are ASCII"),
+};
 
 /// Tells a line in which characters are changed.
 pub fn changed(page: Page, changed: &ChangedLine, out: &mut dyn Write) -> io::Result<()> {

@@ -7,13 +7,17 @@ use crate::examine::{send, Sent};
 use crate::input::Input;
 use crate::keeping::{in_the_way, tell_book, tell_entry, tell_not_taken};
 use crate::lists::Countries;
+use crate::names::{counted, sorted};
 use crate::table::replacements;
-use crate::tell::{self, name, refusal_json, tell, End, Shown};
+use crate::tell::{self, code_page, name, refusal_json, tell, End, Shown};
 use desk::bookfile::{read_book, BookFile, BookFileError, Layout};
 use desk::{Book, Entry, Refusal, Totals};
 use serde_json::{json, Value};
 use std::io::{self, Write};
 use std::path::Path;
+
+/// More business days than offices are closed in a row.
+const FAR: u32 = 20;
 
 /// Makes a book file.
 pub fn make(path: &Path, is_json: bool) -> Result<End, Failure> {
@@ -68,20 +72,42 @@ pub fn take(words: &cli::Take, is_json: bool) -> Result<End, Failure> {
     let asked = Entry { number, day: words.day, payments: figures.kept as u64, euros: figures.kept_euros };
     let (mut file, layout) = BookFile::open(&words.book).map_err(failure)?;
     say_layout(&words.book, layout);
+    is_near(words, file.book())?;
+    let held_before = file.book().held().len();
     if let Err(refusal) = file.take(asked.number, asked.day, asked.payments, asked.euros) {
         return not_taken(words, file.book(), asked, refusal, is_json);
     }
     let book = file.book().clone();
+    let forgotten = held_before + 1 - book.held().len();
     let written = file.write().map_err(failure)?;
     let mut told = book_json("book take", &words.book, &book);
-    tell::add(&mut told, json!({ "taken": true, "file": entry_json(&asked), "returned": figures.returned }));
+    let taken =
+        json!({ "taken": true, "file": entry_json(&asked), "returned": figures.returned, "forgotten": forgotten });
+    tell::add(&mut told, taken);
     tell(is_json, &told, |out| {
-        writeln!(out, "on {} {} payments go on, {} come back", way.page, figures.kept, figures.returned)?;
+        writeln!(out, "on {} {}", code_page(way.page), sorted(figures.kept, figures.returned))?;
         tell_entry(&asked, out)?;
+        if forgotten > 0 {
+            writeln!(out, "{} forgotten by this day", counted(forgotten, "earlier file number"))?;
+        }
         tell_book(&book, out)
     })?;
     written.put_in_place().map_err(failure)?;
     Ok(End::Done)
+}
+
+/// Asks that a day is not far ahead of a book that holds something: typed too high it would make the book forget all of it, and
+/// refuse the right days from then on.
+fn is_near(words: &cli::Take, book: &Book) -> Result<(), Failure> {
+    let ahead = words.day.saturating_sub(book.day());
+    match ahead > FAR && !book.held().is_empty() && !words.jump {
+        true => Err(format!(
+            "day {} is {ahead} days after the book's, which would forget all that it holds; if it is right, add --jump",
+            words.day
+        )
+        .into()),
+        false => Ok(()),
+    }
 }
 
 /// Tells why a number is not taken, and from which day on it might be.

@@ -3,78 +3,77 @@
 use super::way;
 use crate::cli;
 use crate::common::Failure;
-use crate::examine::sound_elsewhere;
+use crate::examine::{letters_elsewhere, sound_elsewhere};
 use crate::faults;
 use crate::input::Input;
 use crate::lists::Countries;
-use crate::sending::{self, Way};
+use crate::names::counted;
+use crate::sending::{self, Outgoing, Way};
 use crate::table::replacements;
-use crate::tell::{name, refusal_json, tell, End, Shown};
-use desk::{Answer, Prepared, Reader, Refusal};
-use serde_json::json;
-use std::ffi::OsStr;
+use crate::tell::{self, code_page, name, tell, tell_letters_elsewhere, End, Shown};
+use desk::{Judgement, Prepared, Refusal};
+use serde_json::{json, Value};
 
 pub fn judge(words: &cli::Judge, is_json: bool) -> Result<End, Failure> {
     let countries = Countries::of(words.reading.lists.lists.as_deref())?;
     let way = way(&words.reading, &countries, true);
     let input = Input::open(&words.file)?;
-    let input_name = input.name().to_owned();
+    let answer = json!({ "command": "judge", "file": name(input.name()), "page": way.page as u32 });
     let file = input.read()?;
-    let mut reader = Reader::new(way.page);
-    reader.feed(&file, way.lists);
-    match reader.end(&[]) {
-        Ok(answer) => sound(way, &input_name, &file, answer, is_json),
-        Err(refusal) => refused(way, &input_name, &file, refusal, is_json),
+    match desk::judge(way.page, &file, way.lists, &[]) {
+        Ok(judgement) => sound(way, answer, &file, judgement, is_json),
+        Err(refusal) => refused(way, answer, &file, refusal, is_json),
     }
 }
 
-fn sound(way: Way, input: &OsStr, file: &[u8], answer: Answer, is_json: bool) -> Result<End, Failure> {
-    let Answer { judgement, changes } = answer;
-    let number = desk::file_number(file);
-    let told = json!({
-        "command": "judge",
-        "file": name(input),
-        "page": way.page as u32,
-        "sound": true,
-        "file_number": number,
-        "payments": judgement.payments,
-        "euros": judgement.euros,
-        "cents": judgement.cents,
-        "changes": changes,
-    });
-    tell(is_json, &told, |out| {
-        let desk::Judgement { payments, euros, cents } = judgement;
-        writeln!(out, "sound on {}: {payments} payments, {euros} euros and {cents} cents", way.page)?;
-        if let Some(number) = number {
-            writeln!(out, "file number {number}")?;
-        }
-        writeln!(out, "{changes} characters would be changed")
+fn sound(way: Way, mut answer: Value, file: &[u8], judgement: Judgement, is_json: bool) -> Result<End, Failure> {
+    let Judgement { payments, euros, cents } = judgement;
+    let number = desk::file_number(file).expect("rules 11, 13 and 14 ask for digits");
+    let prepared = sending::prepare(way, file).map_err(|refusal| format!("{refusal}, though the file is sound"))?;
+    let (Outgoing { notes, .. }, _) = prepared;
+    tell::add(
+        &mut answer,
+        json!({
+            "sound": true,
+            "file_number": number,
+            "payments": payments,
+            "euros": euros,
+            "cents": cents,
+            "changes": notes.len(),
+            "letters_on_the_other_page": letters_elsewhere(way.page, &notes),
+        }),
+    );
+    tell(is_json, &answer, |out| {
+        let payments = counted(payments, "payment");
+        writeln!(out, "sound on {}: {payments}, {euros} euros and {cents} cents", code_page(way.page))?;
+        writeln!(out, "file number {number}")?;
+        writeln!(out, "{} would be changed", counted(notes.len(), "character"))?;
+        tell_letters_elsewhere(way.page, &notes, out)
     })?;
     Ok(End::Done)
 }
 
-fn refused(way: Way, input: &OsStr, file: &[u8], refusal: Refusal, is_json: bool) -> Result<End, Failure> {
+fn refused(way: Way, mut answer: Value, file: &[u8], refusal: Refusal, is_json: bool) -> Result<End, Failure> {
     let shown = Shown { page: way.page, table: &replacements(way.page) };
     let fault = faults::judged(way, file, refusal);
     let sorted = sorted(way, file);
     let other_page = sound_elsewhere(way, file);
-    let told = json!({
-        "command": "judge",
-        "file": name(input),
-        "page": way.page as u32,
-        "sound": false,
-        "refusal": refusal_json(refusal),
-        "fault": fault.as_ref().map(|fault| shown.fault_json(fault)),
-        "prepare_would": sorted.map(|sent| json!({ "goes_on": sent.kept, "comes_back": sent.returned })),
-        "sound_on_page": other_page.map(|page| page as u32),
-    });
-    tell(is_json, &told, |out| {
+    tell::add(&mut answer, json!({ "sound": false }));
+    tell::add(&mut answer, shown.refused_json(refusal, fault.as_ref(), file));
+    tell::add(
+        &mut answer,
+        json!({
+            "prepare_would": sorted.map(|sent| json!({ "send": sent.kept, "return": sent.returned })),
+            "sound_on_page": other_page.map(|page| page as u32),
+        }),
+    );
+    tell(is_json, &answer, |out| {
         shown.refused(refusal, fault.as_ref(), file, out)?;
         if let Some(Prepared { kept, returned, .. }) = sorted {
-            writeln!(out, "prepare would send {kept} payments on, and {returned} would come back")?;
+            writeln!(out, "prepare would send {} on, and return {returned}", counted(kept, "payment"))?;
         }
         match other_page {
-            Some(page) => writeln!(out, "on {page} the file is sound: --page {} names it", page as u32),
+            Some(page) => writeln!(out, "on {} the file is sound: --page {} names it", code_page(page), page as u32),
             None => Ok(()),
         }
     })?;

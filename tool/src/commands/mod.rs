@@ -2,6 +2,7 @@
 
 mod book;
 mod completions;
+mod countries;
 mod judge;
 mod page;
 mod prepare;
@@ -29,6 +30,7 @@ pub fn run(words: &Words) -> Result<End, Failure> {
             BookWork::List { book } => book::list(book, is_json),
             BookWork::Totals { book } => book::totals(book, is_json),
         },
+        Command::Countries(words) => countries::countries(words, is_json),
         Command::Completions { shell } => completions::completions(*shell),
     }
 }

@@ -4,21 +4,18 @@ use super::way;
 use crate::cli;
 use crate::common::Failure;
 use crate::examine::{send, NotSent, Sent};
-use crate::faults::{self, Fault};
 use crate::html::Report;
-use crate::input::{bar, Input};
+use crate::input::Input;
 use crate::lists::Countries;
+use crate::names::{counted, plain, sorted};
 use crate::outputs::Outputs;
 use crate::sending::Way;
 use crate::sums::sum;
 use crate::table::replacements;
-use crate::tell::{self, name, refusal_json, tell, End};
-use desk::{Prepared, Refusal};
+use crate::tell::{self, code_page, name, refusal_json, tell, tell_letters_elsewhere, ComesBack, End};
+use desk::Prepared;
 use serde_json::{json, Value};
 use std::io::{self, Write};
-
-/// From how many payments on that come back progress is shown.
-const MANY: usize = 1000;
 
 pub fn page(words: &cli::PageOf, is_json: bool) -> Result<End, Failure> {
     let folder = words.reading.lists.lists.as_deref();
@@ -33,7 +30,7 @@ pub fn page(words: &cli::PageOf, is_json: bool) -> Result<End, Failure> {
     let report = Report::new(words.lang, &words.file, folder, way, &table, &file);
     let sent = send(way, &file)?;
     let page = match &sent {
-        Ok(sent) => report.of_sent(sent, &returned(way, &file, sent)),
+        Ok(sent) => report.of_sent(sent, &ComesBack::of(way, &file, &sent.forwarded, &sent.returned)),
         Err(not_sent) => report.of_refused(not_sent),
     };
     let written = outputs.write(&[page.as_bytes()])?;
@@ -44,34 +41,22 @@ pub fn page(words: &cli::PageOf, is_json: bool) -> Result<End, Failure> {
     tell::add(&mut told, json!({ "written": { "html": html } }));
     tell(is_json, &told, |out| {
         tell_outcome(way, &sent, out)?;
-        writeln!(out, "page: {}", words.out.display())
+        writeln!(out, "written: {}", plain(&words.out))
     })?;
     written.put_in_place()?;
     Ok(if sent.is_ok() { End::Done } else { End::Refused })
-}
-
-/// The payments that come back, each with the field that is to blame.
-fn returned<'a>(way: Way, file: &'a [u8], sent: &Sent) -> Vec<(Refusal, Option<Fault<'a>>)> {
-    let count = sent.returned.len();
-    let progress = (count >= MANY).then(|| bar(count as u64, "{pos} of {len} payments looked at"));
-    let fault = |&refusal: &Refusal| {
-        progress.iter().for_each(|progress| progress.inc(1));
-        (refusal, faults::returned(way, file, &sent.forwarded, refusal))
-    };
-    let returned = sent.returned.iter().map(fault).collect();
-    progress.iter().for_each(|progress| progress.finish_and_clear());
-    returned
 }
 
 fn tell_outcome(way: Way, sent: &Result<Sent, NotSent>, out: &mut dyn Write) -> io::Result<()> {
     match sent {
         Ok(sent) => {
             let Prepared { kept, returned, notes, .. } = sent.figures;
-            writeln!(out, "on {} {kept} payments go on, {returned} come back", way.page)?;
-            writeln!(out, "{notes} characters changed in what goes on")
+            writeln!(out, "on {} {}", code_page(way.page), sorted(kept, returned))?;
+            writeln!(out, "{} changed in what goes on", counted(notes, "character"))?;
+            tell_letters_elsewhere(way.page, &sent.notes, out)
         }
-        Err(NotSent { refusal, first_broken }) => {
-            writeln!(out, "refused on {}: {refusal}", way.page)?;
+        Err(NotSent { refusal, first_broken, .. }) => {
+            writeln!(out, "refused on {}: {refusal}", code_page(way.page))?;
             first_broken.iter().try_for_each(|first| writeln!(out, "first broken: {first}"))
         }
     }
@@ -82,14 +67,15 @@ fn outcome_json(sent: &Result<Sent, NotSent>) -> Value {
         Ok(sent) => {
             let Prepared { kept, returned, kept_euros, returned_euros, notes } = sent.figures;
             json!({
-                "sent": true,
+                "prepared": true,
                 "goes_on": { "payments": kept, "euros": kept_euros },
                 "comes_back": { "payments": returned, "euros": returned_euros },
                 "changes": notes,
             })
         }
-        Err(NotSent { refusal, first_broken }) => {
-            json!({ "sent": false, "refusal": refusal_json(*refusal), "first_broken": first_broken.map(refusal_json) })
+        Err(NotSent { refusal, first_broken, .. }) => {
+            let first_broken = first_broken.map(refusal_json);
+            json!({ "prepared": false, "refusal": refusal_json(*refusal), "first_broken": first_broken })
         }
     }
 }

@@ -3,17 +3,17 @@
 use super::way;
 use crate::cli;
 use crate::common::Failure;
-use crate::examine::{send, ChangedLine, NotSent, Sent};
-use crate::faults::{self, Fault};
+use crate::examine::{letters_elsewhere, send, ChangedLine, NotSent, Sent};
 use crate::input::Input;
 use crate::lists::Countries;
+use crate::names::{counted, plain};
 use crate::notes::{Known, NotesFile};
 use crate::outputs::Outputs;
-use crate::sending::{payment, Way};
+use crate::sending::Way;
 use crate::sums::sum;
 use crate::table::replacements;
-use crate::tell::{self, name, tell, ComesBack, End, Shown};
-use desk::{Prepared, Refusal, M8_CODES, M8_RECORD};
+use crate::tell::{self, code_page, name, tell, tell_letters_elsewhere, ComesBack, End, Shown};
+use desk::{Prepared, M8_CODES};
 use serde_json::{json, Value};
 use std::io::{self, Write};
 use std::path::Path;
@@ -25,9 +25,7 @@ struct Told<'a> {
     file: &'a [u8],
     sent: &'a Sent,
     shown: &'a Shown<'a>,
-    returned: Vec<(Refusal, Option<Fault<'a>>)>,
-    /// The M8 records of what comes back, where they are asked for.
-    m8: Option<Vec<u8>>,
+    returned: Vec<ComesBack<'a>>,
 }
 
 /// An output: what it is, in words and for machines, where it goes, and its bytes.
@@ -53,8 +51,9 @@ pub fn prepare(words: &cli::Prepare, is_json: bool) -> Result<End, Failure> {
         Ok(sent) => sent,
         Err(not_sent) => return refused(way, words, &file, &not_sent, &shown, is_json),
     };
-    let told = Told::new(words, way, &file, &sent, &shown)?;
-    let files = told.outputs(&countries);
+    let returned = ComesBack::of(way, &file, &sent.forwarded, &sent.returned);
+    let told = Told { words, way, file: &file, sent: &sent, shown: &shown, returned };
+    let files = told.outputs(&countries)?;
     let contents: Vec<&[u8]> = files.iter().map(|file| &file.bytes[..]).collect();
     let written = outputs.write(&contents)?;
     tell(is_json, &told.json(&files), |out| told.words(&files, out))?;
@@ -70,7 +69,8 @@ fn refused(
     shown: &Shown,
     is_json: bool,
 ) -> Result<End, Failure> {
-    let mut told = json!({ "command": "prepare", "file": name(&words.file), "page": way.page as u32, "sent": false });
+    let mut told =
+        json!({ "command": "prepare", "file": name(&words.file), "page": way.page as u32, "prepared": false });
     tell::add(&mut told, tell::not_sent_json(way, file, not_sent, shown));
     tell(is_json, &told, |out| {
         tell::not_sent(way, file, not_sent, shown, out)?;
@@ -80,34 +80,31 @@ fn refused(
 }
 
 impl<'a> Told<'a> {
-    fn new(
-        words: &'a cli::Prepare,
-        way: Way<'a>,
-        file: &'a [u8],
-        sent: &'a Sent,
-        shown: &'a Shown<'a>,
-    ) -> Result<Told<'a>, Failure> {
-        let fault = |&refusal: &Refusal| (refusal, faults::returned(way, file, &sent.forwarded, refusal));
-        let returned = sent.returned.iter().map(fault).collect();
-        let m8 = words.m8.as_ref().map(|_| m8_records(way, file, sent)).transpose()?;
-        Ok(Told { words, way, file, sent, shown, returned, m8 })
-    }
-
     /// What is written, in the order in which it is put in place.
-    fn outputs(&self, countries: &Countries) -> Vec<Output<'a>> {
+    fn outputs(&self, countries: &Countries) -> Result<Vec<Output<'a>>, Failure> {
         let cli::Prepare { notes, returned, m8, out, .. } = self.words;
         let notes_text = self.notes(countries).to_text();
         let mut outputs = vec![Output { what: "notes", key: "notes", path: notes, bytes: notes_text }];
         if let Some(path) = returned {
             let mut bytes = Vec::new();
-            self.tell_returned(&mut bytes).expect("memory can be written");
+            self.tell_list(&mut bytes).expect("memory can be written");
             outputs.push(Output { what: "list of what comes back", key: "returned", path, bytes });
         }
-        if let (Some(path), Some(records)) = (m8, &self.m8) {
-            outputs.push(Output { what: "M8 records", key: "m8", path, bytes: records.clone() });
+        if let Some(path) = m8 {
+            outputs.push(Output { what: "M8 records", key: "m8", path, bytes: self.m8_records()? });
         }
         outputs.push(Output { what: "forwarded file", key: "out", path: out, bytes: self.sent.forwarded.clone() });
-        outputs
+        Ok(outputs)
+    }
+
+    /// The M8 records. There has to be one for each payment that comes back.
+    fn m8_records(&self) -> Result<Vec<u8>, Failure> {
+        let Way { page, lists, .. } = self.way;
+        let mut records = vec![0; self.sent.figures.m8_bytes()];
+        match desk::m8(page, self.file, lists, &M8_CODES, &mut records) {
+            Ok(count) if count == self.sent.figures.returned => Ok(records),
+            _ => Err("M8 records are missing: nothing is written".into()),
+        }
     }
 
     fn notes(&self, countries: &Countries) -> NotesFile {
@@ -125,38 +122,32 @@ impl<'a> Told<'a> {
 
     fn words(&self, files: &[Output], out: &mut dyn Write) -> io::Result<()> {
         let Prepared { kept, returned, kept_euros, returned_euros, notes } = self.sent.figures;
-        let (payments, euros) = (kept + returned, kept_euros + returned_euros);
-        writeln!(out, "prepared on {}", self.way.page)?;
-        writeln!(out, "submitted:  {payments} payments, {euros} whole euros")?;
-        writeln!(out, "goes on:    {kept} payments, {kept_euros} whole euros")?;
-        writeln!(out, "comes back: {returned} payments, {returned_euros} whole euros")?;
-        self.tell_returned(out)?;
-        writeln!(out, "{notes} characters changed in what goes on")?;
+        let sum =
+            |payments: usize, euros: u64| format!("{}, {}", counted(payments, "payment"), counted(euros, "whole euro"));
+        writeln!(out, "prepared on {}", code_page(self.way.page))?;
+        writeln!(out, "submitted:  {}", sum(kept + returned, kept_euros + returned_euros))?;
+        writeln!(out, "goes on:    {}", sum(kept, kept_euros))?;
+        writeln!(out, "comes back: {}", sum(returned, returned_euros))?;
+        self.returned.iter().try_for_each(|back| back.words(self.shown, out))?;
+        writeln!(out, "{} changed in what goes on", counted(notes, "character"))?;
         self.changed().iter().try_for_each(|line| tell::changed(self.way.page, line, out))?;
+        tell_letters_elsewhere(self.way.page, &self.sent.notes, out)?;
         for Output { what, path, bytes, .. } in files {
-            writeln!(out, "{what}: {}, {} bytes", path.display(), bytes.len())?;
+            writeln!(out, "{what}: {}, {}", plain(path), counted(bytes.len(), "byte"))?;
         }
-        if returned > 0 {
-            writeln!(out, "keep the submitted file: what comes back is in it alone, and needs a new file number")?;
+        match returned {
+            0 => Ok(()),
+            _ => writeln!(out, "keep the submitted file: what comes back is in it alone, and needs a new file number"),
         }
-        Ok(())
     }
 
-    fn tell_returned(&self, out: &mut dyn Write) -> io::Result<()> {
-        for back in self.comes_back() {
-            back.words(self.shown, out)?;
-        }
-        Ok(())
-    }
-
-    /// The payments that come back, each with its M8 record.
-    fn comes_back(&self) -> impl Iterator<Item = ComesBack<'_>> {
-        self.returned.iter().enumerate().map(move |(i, (refusal, fault))| ComesBack {
-            refusal: *refusal,
-            fault: fault.as_ref(),
-            payment: payment(self.file, refusal.record),
-            m8: self.m8.as_ref().map(|records| &records[i * M8_RECORD..(i + 1) * M8_RECORD]),
-        })
+    /// The list of what comes back: which file it is of, and each payment with the reason.
+    fn tell_list(&self, out: &mut dyn Write) -> io::Result<()> {
+        let Prepared { returned, returned_euros, .. } = self.sent.figures;
+        let number = desk::file_number(self.file).expect("rules 11, 13 and 14 ask for digits");
+        let (payments, euros) = (counted(returned, "payment"), counted(returned_euros, "whole euro"));
+        writeln!(out, "comes back of file number {number}: {payments}, {euros}")?;
+        self.returned.iter().try_for_each(|back| back.words(self.shown, out))
     }
 
     fn changed(&self) -> Vec<ChangedLine<'a>> {
@@ -165,18 +156,19 @@ impl<'a> Told<'a> {
 
     fn json(&self, files: &[Output]) -> Value {
         let Prepared { kept, returned, kept_euros, returned_euros, notes } = self.sent.figures;
-        let back = self.comes_back().map(|back| back.json(self.shown));
+        let back = self.returned.iter().map(|back| back.json(self.shown));
         let mut told = json!({
             "command": "prepare",
             "file": name(&self.words.file),
             "page": self.way.page as u32,
-            "sent": true,
+            "prepared": true,
             "file_number": desk::file_number(self.file),
             "submitted": { "payments": kept + returned, "euros": kept_euros + returned_euros },
             "goes_on": { "payments": kept, "euros": kept_euros },
             "comes_back": { "payments": returned, "euros": returned_euros },
             "returned": back.collect::<Vec<Value>>(),
             "changes": notes,
+            "letters_on_the_other_page": letters_elsewhere(self.way.page, &self.sent.notes),
             "changed": self.changed().iter().map(|line| tell::changed_json(self.way.page, line)).collect::<Vec<Value>>(),
         });
         let written = files.iter().map(|Output { key, path, bytes, .. }| {
@@ -185,14 +177,5 @@ impl<'a> Told<'a> {
         });
         tell::add(&mut told, json!({ "written": Value::Object(written.collect()) }));
         told
-    }
-}
-
-/// The M8 records. There has to be one for each payment that comes back.
-fn m8_records(way: Way, file: &[u8], sent: &Sent) -> Result<Vec<u8>, Failure> {
-    let mut records = vec![0; sent.figures.m8_bytes()];
-    match desk::m8(way.page, file, way.lists, &M8_CODES, &mut records) {
-        Ok(count) if count == sent.figures.returned => Ok(records),
-        _ => Err("M8 records are missing: nothing is written".into()),
     }
 }

@@ -4,9 +4,10 @@ use crate::cli;
 use crate::common::Failure;
 use crate::input::Input;
 use crate::lists::Countries;
+use crate::names::{counted, plain};
 use crate::notes::{Known, NotesFile, MOST_NOTES_BYTES};
 use crate::outputs::Outputs;
-use crate::tell::{name, tell, End};
+use crate::tell::{code_page, name, tell, End};
 use serde_json::json;
 use std::path::Path;
 
@@ -19,7 +20,7 @@ pub fn restore(words: &cli::Restore, is_json: bool) -> Result<End, Failure> {
     let text = notes_input.read_up_to(MOST_NOTES_BYTES + 1)?;
     let forwarded = input.read()?;
     let restored = NotesFile::from_text(&text)
-        .map_err(|flaw| format!("{}: {flaw}", words.notes.display()))
+        .map_err(|flaw| format!("{}: {flaw}", plain(&words.notes)))
         .and_then(|notes| original(&notes, &forwarded, &countries).map(|original| (notes, original)));
     let (notes, original) = match restored {
         Ok(restored) => restored,
@@ -40,11 +41,17 @@ pub fn restore(words: &cli::Restore, is_json: bool) -> Result<End, Failure> {
         "submitted_sha256": notes.submitted.sum.to_string(),
     });
     tell(is_json, &told, |out| {
-        writeln!(out, "restored on {}: {} characters put back", notes.page, notes.notes.len())?;
-        let path = words.out.display();
+        writeln!(out, "restored on {}: {} put back", code_page(notes.page), counted(notes.notes.len(), "character"))?;
+        let path = plain(&words.out);
         match notes.returned {
             0 => writeln!(out, "{path} is the submitted file")?,
-            count => writeln!(out, "{path} is what went on of the submitted file; {count} payments came back")?,
+            count => {
+                let back = counted(count, "payment");
+                writeln!(
+                    out,
+                    "{path} is what went on of the submitted file; {back} came back and stayed in that alone"
+                )?;
+            }
         }
         writeln!(out, "{} bytes, SHA-256 {}", original.len(), notes.original.sum)?;
         match notes.returned {
@@ -68,9 +75,15 @@ fn original(notes: &NotesFile, forwarded: &[u8], countries: &Countries) -> Resul
             ));
         }
     }
-    if Known::of(forwarded) != notes.forwarded {
+    let found = Known::of(forwarded);
+    if found != notes.forwarded {
         let Known { bytes, sum } = notes.forwarded;
-        return Err(format!("another file than the one that was forwarded, which has {bytes} bytes and SHA-256 {sum}"));
+        let due = format!("the forwarded file has {bytes} bytes and SHA-256 {sum}");
+        return Err(match found {
+            _ if found == notes.original => format!("this is the file that went on as it was written; {due}"),
+            _ if found == notes.submitted => format!("this is the submitted file; {due}"),
+            _ => format!("another file than the one that was forwarded; {due}"),
+        });
     }
     let mut original = vec![0; forwarded.len()];
     desk::restore(notes.page, forwarded, &notes.notes, countries.lists(), &mut original)
@@ -82,7 +95,7 @@ fn original(notes: &NotesFile, forwarded: &[u8], countries: &Countries) -> Resul
 }
 
 fn refused(forwarded: &Path, why: &str, is_json: bool) -> Result<End, Failure> {
-    let told = json!({ "command": "restore", "forwarded": name(forwarded), "refused": why });
+    let told = json!({ "command": "restore", "forwarded": name(forwarded), "restored": null, "why": why });
     tell(is_json, &told, |out| writeln!(out, "refused: {why}"))?;
     Ok(End::Refused)
 }

@@ -32,7 +32,7 @@ pub fn show(words: &cli::Show, is_json: bool) -> Result<End, Failure> {
         "text": bytes.map(|bytes| whole_text(page, bytes)),
         "read_as": bytes.and_then(|bytes| shown.read_as(columns.field, bytes)),
         "hex": bytes.map(hex),
-        "refused": why,
+        "why": why,
     });
     tell(is_json, &told, |out| match (bytes, &why) {
         (Some(bytes), _) => {
@@ -45,15 +45,11 @@ pub fn show(words: &cli::Show, is_json: bool) -> Result<End, Failure> {
 }
 
 fn tell_lines(shown: &Shown, columns: Columns, bytes: &[u8], out: &mut dyn Write) -> io::Result<()> {
-    for line in lines(columns) {
-        let begin = range(columns).start;
-        let bytes = &bytes[range(line).start - begin..range(line).end - begin];
-        writeln!(out, "    \"{}\"", whole_text(shown.page, bytes))?;
-        if let Some(text) = shown.read_as(columns.field, bytes) {
-            writeln!(out, "    \"{text}\" is what goes on")?;
-        }
-    }
-    Ok(())
+    let begin = range(columns).start;
+    lines(columns).try_for_each(|line| {
+        let place = range(line);
+        shown.line(line, &bytes[place.start - begin..place.end - begin], |_| false, out)
+    })
 }
 
 fn columns_of(field: Field) -> Columns {

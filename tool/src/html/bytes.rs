@@ -2,6 +2,7 @@
 //! escaped, and what cannot be seen is shown as U+FFFD with its hex digits.
 
 use super::words::{fill, Words};
+use crate::names::plain;
 use crate::text::character;
 use desk::Page;
 use std::ffi::OsStr;
@@ -16,21 +17,7 @@ pub fn safe(text: &str) -> String {
 
 /// The name of a file or folder, whose characters cannot touch what stands around it.
 pub fn name(name: &OsStr) -> String {
-    format!("<bdi>{}</bdi>", safe(&plain_name(name)))
-}
-
-/// The name in one line of text, without characters that are obeyed and not shown.
-pub fn plain_name(name: &OsStr) -> String {
-    let shown = |character| if is_obeyed(character) { char::REPLACEMENT_CHARACTER } else { character };
-    name.to_string_lossy().chars().map(shown).collect()
-}
-
-/// Control characters, and those of Unicode that are not seen: spaces without width, and marks of direction.
-fn is_obeyed(character: char) -> bool {
-    let is_unseen = matches!(character,
-        '\u{AD}' | '\u{61C}' | '\u{180E}' | '\u{200B}'..='\u{200F}' | '\u{2028}'..='\u{202E}' | '\u{2060}'..='\u{206F}'
-        | '\u{FEFF}' | '\u{FFF9}'..='\u{FFFB}' | '\u{E0000}'..='\u{E007F}');
-    character.is_control() || is_unseen
+    format!("<bdi>{}</bdi>", safe(&plain(name)))
 }
 
 /// The character that is seen for a byte; `None` where there is none, or one that looks like nothing or like a space.

@@ -45,6 +45,10 @@ pub static WORDS: Words = Words {
     no_changes: "No character is changed.",
     keep: "Keep the submitted file: what comes back is in it alone, and needs a file with a new number.",
     sound_elsewhere: "Read on {}, the file is sound. Ask on which code page the office writes.",
+    letters_elsewhere: counted(
+        "{} changed character becomes a space; on {} it would be a letter. Ask on which code page the office writes.",
+        "{} changed characters become spaces; on {} they would be letters. Ask on which code page the office writes.",
+    ),
 
     summary: "Summary",
     file: "File",
@@ -91,6 +95,7 @@ pub static WORDS: Words = Words {
     read_as: "read as",
 
     what_comes_back: "What comes back",
+    what_would_come_back: "What would come back",
     about_marks: "The fault in a field is <mark>marked</mark>; ␣ is a space that is part of the fault.",
     look_at_first: "All payments but record 1 come back, because their account is another one than that of record 1. \
         So look at record 1 first: it may be the one that is wrong.",
@@ -98,7 +103,8 @@ pub static WORDS: Words = Words {
     what_goes_on: "Payments that go on",
     on: "Goes on",
     one_record: "record {}",
-    records: "records {} to {}",
+    records: "from record {} to record {}",
+    payments_in: counted("{} payment, {}", "{} payments, {}"),
     to: "{} to {}",
     record: "Record",
     payee: "Payee",

@@ -48,6 +48,12 @@ pub static WORDS: Words = Words {
         neuer Nummer.",
     sound_elsewhere: "Nach {} gelesen, ist die Datei in Ordnung. Klären Sie, nach welcher Codepage sie geschrieben \
         wurde.",
+    letters_elsewhere: counted(
+        "{} geändertes Zeichen wird zum Leerzeichen; nach {} würde es ein Buchstabe. Klären Sie, nach welcher Codepage die \
+            Datei geschrieben wurde.",
+        "{} geänderte Zeichen werden zu Leerzeichen; nach {} würden es Buchstaben. Klären Sie, nach welcher Codepage die \
+            Datei geschrieben wurde.",
+    ),
 
     summary: "Übersicht",
     file: "Datei",
@@ -94,6 +100,7 @@ pub static WORDS: Words = Words {
     read_as: "gelesen als",
 
     what_comes_back: "Was zurückkommt",
+    what_would_come_back: "Was zurückkäme",
     about_marks: "Der Fehler in einem Feld ist <mark>markiert</mark>; ␣ ist ein Leerzeichen, das zum Fehler gehört.",
     look_at_first: "Alle Zahlungen außer Satz 1 kommen zurück, weil ihr Konto ein anderes ist als das von Satz 1. \
         Sehen Sie sich deshalb zuerst Satz 1 an: Vielleicht ist er der falsche.",
@@ -101,7 +108,8 @@ pub static WORDS: Words = Words {
     what_goes_on: "Zahlungen, die weitergehen",
     on: "Geht weiter",
     one_record: "Satz {}",
-    records: "Sätze {} bis {}",
+    records: "von Satz {} bis Satz {}",
+    payments_in: counted("{} Zahlung, {}", "{} Zahlungen, {}"),
     to: "{} bis {}",
     record: "Satz",
     payee: "Zahlungsempfänger",

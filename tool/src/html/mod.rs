@@ -17,16 +17,20 @@ mod terms;
 mod words;
 
 use crate::cli::Lang;
-use crate::examine::{sound_elsewhere, NotSent, Sent};
-use crate::faults::Fault;
+use crate::examine::{letters_elsewhere, other_page, sound_elsewhere, NotSent, Sent};
+use crate::names::plain;
 use crate::sending::Way;
-use bytes::{name, plain_name, safe};
-use desk::{Page, Refusal};
+use crate::tell::ComesBack;
+use bytes::{name, safe};
+use desk::Page;
 use numbers::grouped;
 use parts::{rule_name, rule_words, Section};
 use std::ffi::OsStr;
 use std::path::Path;
 use words::{fill, Words};
+
+pub use structure::{blamed, what_is_wrong};
+pub use words::words;
 
 const STYLE: &str = include_str!("style.css");
 
@@ -61,7 +65,7 @@ impl<'a> Report<'a> {
         table: &'a [u8; 256],
         file: &'a [u8],
     ) -> Report<'a> {
-        let words = words::words(lang);
+        let words = words(lang);
         let last_name = |path: &'a Path| path.file_name().unwrap_or(path.as_os_str());
         let name = if path.as_os_str() == "-" { OsStr::new(words.standard_input) } else { last_name(path) };
         Report { words, name, lists: lists.map(last_name), way, table, file }
@@ -73,7 +77,7 @@ impl<'a> Report<'a> {
     }
 
     /// The page of a file of which something goes on.
-    pub fn of_sent(&self, sent: &Sent, returned: &[(Refusal, Option<Fault>)]) -> String {
+    pub fn of_sent(&self, sent: &Sent, returned: &[ComesBack]) -> String {
         let mut sections = vec![self.summary(Some(sent), true)];
         if !returned.is_empty() {
             sections.push(self.coming_back(sent, returned));
@@ -87,6 +91,10 @@ impl<'a> Report<'a> {
     pub fn of_refused(&self, not_sent: &NotSent) -> String {
         let refusal = not_sent.refusal;
         let mut sections = self.why_refused(not_sent);
+        if let Some((forwarded, returned)) = &not_sent.all_back {
+            let body = self.returned(&ComesBack::of(self.way, self.file, forwarded, returned));
+            sections.push(Section { id: "back", title: self.words.what_would_come_back.into(), body });
+        }
         sections.push(self.summary(None, refusal.number >= 20));
         let lead = format!(
             "<p>{}</p><p><b>{}</b>: {}</p>{}",
@@ -110,12 +118,12 @@ impl<'a> Report<'a> {
                 class: "sound",
                 sign: '✓',
                 heading,
-                lead: format!("<p>{lead} {changes}</p><p>{means}</p>"),
+                lead: format!("<p>{lead} {changes}</p>{}<p>{means}</p>", self.letters(sent)),
             };
         }
         let heading = fill(words.some_back.of(returned), &[&back, &all]) + &fill(words.some_go_on.of(kept), &[&on]);
         let lead = fill(words.lead_some, &[&self.on_page(self.way.page)]);
-        let lead = format!("<p>{lead} {changes}</p><p>{}</p>{}", words.keep, self.other_page());
+        let lead = format!("<p>{lead} {changes}</p>{}<p>{}</p>{}", self.letters(sent), words.keep, self.other_page());
         Verdict { class: "some", sign: '!', heading, lead }
     }
 
@@ -124,6 +132,18 @@ impl<'a> Report<'a> {
         match sound_elsewhere(self.way, self.file) {
             Some(other) => format!("<p>{}</p>", fill(self.words.sound_elsewhere, &[&self.on_page(other)])),
             None => String::new(),
+        }
+    }
+
+    /// Where changed characters would be letters on the other code page, that is said.
+    fn letters(&self, sent: &Sent) -> String {
+        match letters_elsewhere(self.way.page, &sent.notes) {
+            0 => String::new(),
+            count => {
+                let other = self.on_page(other_page(self.way.page));
+                let words = fill(self.words.letters_elsewhere.of(count), &[&grouped(self.words, count as u64), &other]);
+                format!("<p><b>{words}</b></p>")
+            }
         }
     }
 
@@ -153,7 +173,7 @@ impl<'a> Report<'a> {
     }
 
     fn head(&self, heading: &str) -> String {
-        let title = safe(&format!("{heading} – {}", plain_name(self.name)));
+        let title = safe(&format!("{heading} – {}", plain(self.name)));
         format!(
             "<!DOCTYPE html>\n<html lang=\"{}\">\n<head>\n<meta charset=\"utf-8\">\n\
             <meta http-equiv=\"Content-Security-Policy\" content=\"{}\">\n\

@@ -9,10 +9,8 @@ use super::words::fill;
 use super::Report;
 use crate::common::{Q, T};
 use crate::examine::Sent;
-use crate::faults::Fault;
-use crate::sending::payment;
+use crate::tell::ComesBack;
 use crate::text::PAYEE;
-use desk::{Refusal, M8_CODES};
 use std::ops::Range;
 
 /// Where the payee's country stands in a T record.
@@ -30,16 +28,19 @@ struct Row {
 
 impl Report<'_> {
     /// What comes back, and why.
-    pub fn coming_back(&self, sent: &Sent, returned: &[(Refusal, Option<Fault>)]) -> Section {
+    pub fn coming_back(&self, sent: &Sent, returned: &[ComesBack]) -> Section {
         let words = self.words;
-        let rows = returned.iter().map(|(refusal, fault)| {
-            self.row(refusal.record, payment(self.file, refusal.record), &self.reason(*refusal, fault.as_ref()))
-        });
-        let tables = self.hundreds("back", words.back, words.why_back, &rows.collect::<Vec<_>>());
-        let is_first_alone = sent.kept_records() == [1] && returned.iter().all(|(refusal, _)| refusal.number == 21);
+        let is_first_alone = sent.kept_records() == [1] && returned.iter().all(|back| back.refusal.number == 21);
         let hint = if is_first_alone { format!("<p>{}</p>\n", words.look_at_first) } else { String::new() };
-        let body = note(words.about_marks) + &hint + &tables;
+        let body = hint + &self.returned(returned);
         Section { id: "back", title: words.what_comes_back.into(), body }
+    }
+
+    /// The payments that come back, or would.
+    pub fn returned(&self, returned: &[ComesBack]) -> String {
+        let words = self.words;
+        let rows = returned.iter().map(|back| self.row(back.refusal.record, back.payment, &self.reason(back)));
+        note(words.about_marks) + &self.hundreds("back", words.back, words.why_back, &rows.collect::<Vec<_>>())
     }
 
     /// The payments that go on, and what is changed in each.
@@ -57,11 +58,10 @@ impl Report<'_> {
     }
 
     /// Why a payment comes back: the rule, the field with the fault, and the code of its M8 record.
-    fn reason(&self, refusal: Refusal, fault: Option<&Fault>) -> String {
-        let (name, words) = (rule_name(self.words, refusal), rule_words(self.words, refusal));
-        let field = fault.map(|fault| self.faulty_field(fault)).unwrap_or_default();
-        let code = &M8_CODES[(refusal.number as usize - 20) * 6..][..6];
-        let code = std::str::from_utf8(code).expect("the codes are ASCII");
+    fn reason(&self, back: &ComesBack) -> String {
+        let (name, words) = (rule_name(self.words, back.refusal), rule_words(self.words, back.refusal));
+        let field = back.fault.as_ref().map(|fault| self.faulty_field(fault)).unwrap_or_default();
+        let (code, _) = back.code();
         let (m8_code, meaning) = (self.words.m8_code, meaning(self.words.lang, code));
         format!("<p><b>{name}</b>: {words}</p>{field}<p>{m8_code} <b>{code}</b>: {meaning}</p>")
     }
@@ -89,7 +89,8 @@ impl Report<'_> {
                 false => fill(words.records, &[&first, &last]),
             };
             let rows: String = hundred.iter().map(|row| &row.html[..]).collect();
-            let table = table("payments", &format!("{what}: {records}"), &heads, &rows);
+            let inside = fill(words.payments_in.of(hundred.len()), &[&hundred.len(), &records]);
+            let table = table("payments", &format!("{what}: {inside}"), &heads, &rows);
             tables += &format!("<div class=\"{class}\" id=\"{id}-{first}\">\n{table}</div>\n");
             links += &format!("<li><a href=\"#{id}-{first}\">{}</a></li>\n", fill(words.to, &[&first, &last]));
         }

@@ -18,7 +18,7 @@ impl Report<'_> {
     pub fn why_refused(&self, not_sent: &NotSent) -> Vec<Section> {
         let words = self.words;
         let why = Section { id: "why", title: words.why_refused.into(), body: self.refusal(not_sent.refusal) };
-        let first = not_sent.first_broken.map(|first| {
+        let first = not_sent.first_broken.filter(|_| not_sent.all_back.is_none()).map(|first| {
             let body = format!("<p>{}</p>\n{}", words.about_judge, self.refusal(first));
             Section { id: "first", title: words.judge_first.into(), body }
         });

@@ -3,7 +3,7 @@
 use super::bytes::{marked, text};
 use super::numbers::grouped;
 use super::parts::{scrolling, table};
-use super::words::fill;
+use super::words::{fill, Words};
 use super::Report;
 use crate::common::{Q, T, Z};
 use crate::records;
@@ -19,9 +19,9 @@ impl Report<'_> {
     /// What is wrong with the records, in words and with the bytes (rules 1 to 5).
     pub fn where_stopped(&self, refusal: Refusal) -> String {
         let words = self.words;
-        let begin = records::begin(refusal.record);
-        let mut told = format!("<p>{}</p>\n", self.what_is_wrong(refusal, begin));
-        let at = blamed(self.file, refusal.number, begin);
+        let code = |bytes: &[u8]| format!("<code>{}</code>", text(self.way.page, bytes));
+        let mut told = format!("<p>{}</p>\n", what_is_wrong(words, self.file, refusal, code));
+        let at = blamed(self.file, refusal);
         let first = (at.start / ROW).saturating_sub(ROWS_BEFORE) * ROW;
         let last = self.file.len().min((at.start / ROW + ROWS_BEHIND) * ROW);
         let shown = &self.file[first.min(last)..last];
@@ -37,36 +37,6 @@ impl Report<'_> {
         let is_end = last == self.file.len() && refusal.number != 1;
         let end = if is_end { format!("<p>{}</p>\n", words.end_of_file) } else { String::new() };
         told + &scrolling(&caption, &table) + &end
-    }
-
-    fn what_is_wrong(&self, refusal: Refusal, begin: usize) -> String {
-        let words = self.words;
-        let left = self.file.len().saturating_sub(begin);
-        let letter = self.file.get(begin + 4).copied().unwrap_or_default();
-        let (begin, record) = (grouped(words, begin as u64), refusal.record);
-        let code = |bytes: &[u8]| format!("<code>{}</code>", text(self.way.page, bytes));
-        match refusal.number {
-            1 => words.too_long.into(),
-            2 if self.file.is_empty() => words.empty.into(),
-            2 if left < 5 => fill(words.no_record, &[&record, &begin, &self.bytes_in_words(left)]),
-            2 => fill(words.cut_record, &[&record, &begin, &code(&[letter]), &length(letter), &left]),
-            3 => fill(words.wrong_length, &[&record, &begin, &code(&[letter]), &code(&digits(letter))]),
-            4 => fill(words.wrong_letter, &[&record, &begin, &self.allowed(record)]),
-            _ => {
-                let behind = records::begin(refusal.record) + Z;
-                let more = self.bytes_in_words(self.file.len() - behind);
-                fill(words.after_z, &[&grouped(words, behind as u64), &more])
-            }
-        }
-    }
-
-    /// The letters that are allowed at a record.
-    fn allowed(&self, record: u64) -> &'static str {
-        match record {
-            0 => "Q",
-            1 => "T",
-            _ => self.words.t_or_z,
-        }
     }
 
     /// A row of bytes: the place of its first one, in hex, and as text.
@@ -89,10 +59,41 @@ impl Report<'_> {
     }
 }
 
-/// The bytes that are to blame: the length digits, the letter, or what is too much; none, behind the last, where some are
-/// missing.
-fn blamed(file: &[u8], number: u64, begin: usize) -> Range<usize> {
+/// What is wrong with the records, in words; some bytes are quoted in it.
+pub fn what_is_wrong(words: &Words, file: &[u8], refusal: Refusal, quoted: impl Fn(&[u8]) -> String) -> String {
+    let Refusal { number, record, .. } = refusal;
+    let begin = records::begin(record);
+    let left = file.len().saturating_sub(begin);
+    let letter = file.get(begin + 4).copied().unwrap_or_default();
+    let place = grouped(words, begin as u64);
+    let in_bytes = |count: usize| fill(words.bytes.of(count), &[&grouped(words, count as u64)]);
     match number {
+        1 => words.too_long.into(),
+        2 if file.is_empty() => words.empty.into(),
+        2 if left < 5 => fill(words.no_record, &[&record, &place, &in_bytes(left)]),
+        2 => fill(words.cut_record, &[&record, &place, &quoted(&[letter]), &length(letter), &left]),
+        3 => fill(words.wrong_length, &[&record, &place, &quoted(&[letter]), &quoted(&digits(letter))]),
+        4 => fill(words.wrong_letter, &[&record, &place, &allowed(words, record)]),
+        _ => {
+            let behind = begin + Z;
+            fill(words.after_z, &[&grouped(words, behind as u64), &in_bytes(file.len() - behind)])
+        }
+    }
+}
+
+/// The letters that are allowed at a record.
+fn allowed(words: &Words, record: u64) -> &'static str {
+    match record {
+        0 => "Q",
+        1 => "T",
+        _ => words.t_or_z,
+    }
+}
+
+/// The bytes that are to blame: the length digits, the letter, or what is too much; behind the last byte where some are missing.
+pub fn blamed(file: &[u8], refusal: Refusal) -> Range<usize> {
+    let begin = records::begin(refusal.record);
+    match refusal.number {
         1 => MOST_BYTES as usize..file.len(),
         3 => begin..begin + 4,
         4 => begin + 4..begin + 5,

@@ -45,6 +45,7 @@ pub struct Words {
     pub no_changes: &'static str,
     pub keep: &'static str,
     pub sound_elsewhere: &'static str,
+    pub letters_elsewhere: Counted,
 
     pub summary: &'static str,
     pub file: &'static str,
@@ -89,6 +90,7 @@ pub struct Words {
     pub read_as: &'static str,
 
     pub what_comes_back: &'static str,
+    pub what_would_come_back: &'static str,
     pub about_marks: &'static str,
     pub look_at_first: &'static str,
     pub back: &'static str,
@@ -96,6 +98,7 @@ pub struct Words {
     pub on: &'static str,
     pub one_record: &'static str,
     pub records: &'static str,
+    pub payments_in: Counted,
     pub to: &'static str,
     pub record: &'static str,
     pub payee: &'static str,
