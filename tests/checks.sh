@@ -1,4 +1,4 @@
-# What tests/programs, tests/hosts and tests/release share. Read by them in the folder of the repository, after tests/x86-64.sh.
+# What the scripts share that hold programs to what they have to print. Read by them in the folder of the repository.
 failed=0
 mkdir -p target/tests
 out=target/tests/out

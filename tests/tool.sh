@@ -29,11 +29,14 @@ make_files() {
     sample_with "$(printf %35s '')" $((1024 + 210)) >target/tests/no-payee
     file_with "$(printf %017d 0)" $((1792 + 458)) target/tests/no-payee >target/tests/no-amount
     file_with 0199 $((2560 + 16)) target/tests/no-amount >target/tests/blank-payee
-    # record 2 comes back, but record 3 has a non-digit in T14b; the same with Z3 one too high in the other sample
+    # a letter in an amount; record 2 comes back
     sample_with O $((1024 + 471)) >target/tests/no-digit
     sample_with XX $((1024 + 207)) >target/tests/second-wrong
-    file_with X $((1792 + 474)) target/tests/second-wrong >target/tests/no-digit-later
-    file_with 9 $((256 + 5 * 768 + 19)) samples/returned.dtazv >target/tests/wrong-total
+    # both payments come back; all of 9,999 do, and there is no room for one more
+    payments 2 >target/tests/two
+    file_with XX $((256 + 207)) target/tests/two >target/tests/first-of-two
+    file_with "$(printf %35s '')" $((1024 + 210)) target/tests/first-of-two >target/tests/half-returned
+    cut_country target/tests/most >target/tests/most-wrong
     # 140 characters of T15 that are changed, more notes than 1,024 bytes hold
     sample_with "$equals$equals$equals$equals" $((256 + 475)) >target/tests/many-notes
     # eleven payments of which the sum has sixteen digits
@@ -42,6 +45,11 @@ make_files() {
         file_with 99999999999999 $((256 + (i - 1) * 768 + 458)) "target/tests/rich-$((i - 1))" >"target/tests/rich-$i"
     done
     cp target/tests/rich-11 target/tests/too-rich
+}
+
+# cut_country FILE: the file, in which no payee has a country: all have that of the sample's first payment
+cut_country() {
+    LC_ALL=C sed 's/BR A\. MUSTERMANN/XX A. MUSTERMANN/g' "$1"
 }
 
 # bytes FILE RECORD FIELD: that field's bytes
@@ -60,15 +68,16 @@ goes_on() {
     printf '0256Z%015d%015d%221s' "${sums#* }" "${sums% *}" ''
 }
 
-# back FILE PAGE RECORD NUMBER FIELD MARKED: what is told of a payment that comes back, with the code and its meaning by
-# docs/M8-CODES.md
+# back FILE PAGE RECORD NUMBER FIELD MARKED [VERB]: what is told of a payment that comes back, or would, with the code and its
+# meaning by docs/M8-CODES.md
 back() {
-    local code euros thousandths
+    local code euros thousandths kind=cheque
     euros=$((10#$(bytes "$1" "$3" T14a)))
     thousandths=$(bytes "$1" "$3" T14b)
+    [ "$(bytes "$1" "$3" T22)" != 00 ] || kind=transfer
     code=$(sed -n "s/^| $4 | \([A-Z0-9]\{6\}\) | .*/\1/p" docs/M8-CODES.md)
-    bytes "$1" "$3" T10b | head -c 35 >target/tests/payee-line
-    echo "record $3 comes back: $euros,${thousandths%0} euros to \"$(shown "$2" <target/tests/payee-line | sed 's/ *$//')\""
+    bytes "$1" "$3" T10b | head -c 35 | shown "$2" | sed 's/ *$//' >target/tests/payee-line
+    echo "record $3 ${7:-comes back}: $kind, $euros,${thousandths%0} euros to \"$(cat target/tests/payee-line)\""
     echo "    $(rule "$4" "$3" "$5")"
     fault "$1" "$2" "$3" "$5" "$6"
     echo "    M8 code $code: $(sed -n "s/^| $code | [^|]* | \([^|]*\) | .*/\1/p" docs/M8-CODES.md)"
@@ -94,46 +103,66 @@ changed() {
     done
 }
 
-# changes FILE PAGE RECORD..: how many characters are changed in them
-changes() {
+# texts FILE RECORD..: all text fields of Q and of these records
+texts() {
     local record field
-    {
-        bytes "$1" 0 Q5
-        for record in "${@:3}"; do
-            for field in T8 T9b T10b T12 T15 T20 T23 T24; do
-                bytes "$1" "$record" $field
-            done
+    bytes "$1" 0 Q5
+    for record in "${@:2}"; do
+        for field in T8 T9b T10b T12 T15 T20 T23 T24; do
+            bytes "$1" "$record" $field
         done
-    } >target/tests/whole
-    replaced "$2" <target/tests/whole | { cmp -l target/tests/whole - || :; } | wc -l
+    done
+}
+
+# changes FILE PAGE RECORD..: how many characters are changed in them, and how many of these become spaces here and letters on
+# the other page
+changes() {
+    local other=$((1 - $2))
+    texts "$1" "${@:3}" >target/tests/whole
+    replaced "$2" <target/tests/whole >target/tests/whole-here
+    replaced $other <target/tests/whole >target/tests/whole-there
+    paste -d ' ' <(codes target/tests/whole) <(codes target/tests/whole-here) <(codes target/tests/whole-there) |
+        awk '$1 != $2 { count++ } $1 != $2 && $2 == 32 && $3 != 32 { elsewhere++ } END { print count + 0, elsewhere + 0 }'
+}
+
+# codes FILE: its bytes as numbers, one to a line
+codes() {
+    od -An -v -w1 -tu1 "$1" | tr -d ' '
 }
 
 # due_of FILE PAGE 'KEPT..' [RECORD NUMBER FIELD MARKED]..: makes what is due of that file of target/tests or of the folder
 # where these records are kept and those come back: what is told (told-FILE-PAGE), the list (list-FILE-PAGE), and what goes on
 # (goes-on-FILE)
 due_of() {
-    local name=$1-$2 page=$2 file count submitted going kept=() records=()
+    local name=$1-$2 page=$2 file count submitted going returned sums kept=() records=()
     file=$(named "$1")
     read -ra kept <<<"$3"
     shift 3
-    : >"target/tests/list-$name"
+    : >target/tests/comes-back
     while [ $# -gt 0 ]; do
         records+=("$1")
-        back "$file" "$page" "${@:1:4}" >>"target/tests/list-$name"
+        back "$file" "$page" "${@:1:4}" >>target/tests/comes-back
         shift 4
     done
     goes_on "$file" "${kept[@]}" >"target/tests/goes-on-${name%-*}"
     submitted=$(amounts "$file" "${kept[@]}" "${records[@]}")
     going=$(amounts "$file" "${kept[@]}")
-    count=$(changes "$file" "$page" "${kept[@]}")
+    returned="${#records[@]} $((${submitted#* } - ${going#* }))"
+    sums=$(changes "$file" "$page" "${kept[@]}")
+    count=${sums% *}
+    {
+        echo "comes back of file number $(file_number "$file"): $(figures_of "$returned")"
+        cat target/tests/comes-back
+    } >"target/tests/list-$name"
     {
         echo "prepared on ${pages[$page]}"
-        echo "submitted:  ${submitted% *} payments, ${submitted#* } whole euros"
-        echo "goes on:    ${going% *} payments, ${going#* } whole euros"
-        echo "comes back: ${#records[@]} payments, $((${submitted#* } - ${going#* })) whole euros"
-        cat "target/tests/list-$name"
-        echo "$count characters changed in what goes on"
+        echo "submitted:  $(figures_of "$submitted")"
+        echo "goes on:    $(figures_of "$going")"
+        echo "comes back: $(figures_of "$returned")"
+        cat target/tests/comes-back
+        echo "$(counted "$count" character) changed in what goes on"
         changed "$file" "$page" "${kept[@]}"
+        elsewhere "$page" "${sums#* }"
         echo "notes: new-notes, $((531 + 11 * count)) bytes"
         echo "list of what comes back: new-list, $(wc -c <"target/tests/list-$name") bytes"
         echo "M8 records: new-m8, $((124 * ${#records[@]})) bytes"
@@ -141,6 +170,16 @@ due_of() {
         [ ${#records[@]} = 0 ] ||
             echo 'keep the submitted file: what comes back is in it alone, and needs a new file number'
     } >"target/tests/told-$name"
+}
+
+# figures_of 'PAYMENTS EUROS': as they are told
+figures_of() {
+    echo "$(counted "${1% *}" payment), $(counted "${1#* }" 'whole euro')"
+}
+
+# file_number FILE: Q4, Q6 and Q7 as one number
+file_number() {
+    echo $((10#$(bytes "$1" 0 Q4)$(bytes "$1" 0 Q6)$(bytes "$1" 0 Q7)))
 }
 
 # named FILE: where a file of target/tests or of the folder lies
@@ -262,7 +301,7 @@ prepares_whole() {
     sed '/^list of/d;/^M8 records/d' "target/tests/told-$1-$2" >target/tests/due
     new_folder
     held "prepare --strict $1 on page $2" target/tests/due 0 out tool prepare "${@:3}" --strict "${new_pair[@]}"
-    : >$folder/new-list
+    cp "target/tests/list-$1-$2" $folder/new-list
     : >$folder/new-m8
     wrote "$1" "$2"
 }
@@ -299,11 +338,10 @@ does_prepare() {
     makes prepare sound "${new_pair[@]}"
     sed -n '/^    KAARAVIZHE NOTES 1/,/^    SHA-256/s/^    //p' docs/NOTES-FILE.md >target/tests/due
     stands 'the notes of the page' target/tests/due new-notes
-    # of the list and the M8 records each is written where it is asked for; the codes are told with the latter
+    # of the list and the M8 records each is written where it is asked for
     new_folder
     makes prepare returned "${new_pair[@]}" --returned new-list
-    sed '/^    M8 code/d' target/tests/list-returned-1 >target/tests/due
-    stands 'list without M8' target/tests/due new-list
+    stands 'list without M8' target/tests/list-returned-1 new-list
     tells 'new-forwarded new-list new-notes' 0 in_folder 'new-*'
     new_folder
     makes prepare returned "${new_pair[@]}" --m8 new-m8
@@ -314,7 +352,7 @@ does_prepare() {
     tr -d '|\n' <tests/cases/m8-first-alone >target/tests/m8-record
     printf 'target/tests/m8-record%.0s\n' $(seq 9998) | xargs cat >target/tests/due
     stands 'M8 records of the most' target/tests/due new-m8
-    tells 49990 0 sed -n '$=' $folder/new-list
+    tells 49991 0 sed -n '$=' $folder/new-list
 }
 
 # declines FILE WORDS LINE..: prepare refuses that file of target/tests, tells those lines, and writes nothing, also where it
@@ -328,15 +366,23 @@ declines() {
     }
 }
 
-# What prepare refuses, in both ways: where every payment would come back, the first broken rule is told too; and an amount that
-# is no number, or a wrong Z, refuses the file although a payment before it would come back.
+# declines_though FILE PLACE TEXT NUMBER RECORD FIELD MARKED [LINE]: that is so of a file in which record 2 would come back, and
+# which breaks a rule that refuses it by that text at that place
+declines_though() {
+    file_with "$3" "$2" "target/tests/$1" >target/tests/refused-though
+    declines refused-though '' "$(refusal target/tests/refused-though 1 "${@:4}")" "first broken: $(rule 28 2 T10a)"
+}
+
+# What prepare refuses, in both ways: where every payment would come back, it is told why each would, if the desk can be asked
+# that; and an amount that is no number, or a wrong Z, refuses the file although a payment would come back.
 refuses_prepare() {
-    local all="refused on ${pages[1]}: number 43: ${words[43]}"
-    local total='    with 1199 in Z3 this rule is kept' strict
+    local all="refused on ${pages[1]}: number 43: ${words[43]}" would='would come back'
+    local total strict
+    total=$(kept 1199 Z3)
     for strict in '' --strict; do
         declines folder/refused "$strict" "$(refusal $folder/refused 1 42 4 Z3 18-20 "$total")"
         declines no-digit "$strict" "$(refusal target/tests/no-digit 1 33 2 T14a 472)"
-        declines cut "$strict" "$(refusal - 1 2 1)"
+        declines cut "$strict" "$(refusal target/tests/cut 1 2 1)"
         declines longer "$strict" "$(refusal - 1 1 0)"
         declines name-din "$strict" "$(refusal target/tests/name-din 1 12 0 Q5 24-58)"
         declines name-iso "$strict --page 0" "$(refusal target/tests/name-iso 0 12 0 Q5 24-58)"
@@ -344,27 +390,37 @@ refuses_prepare() {
     declines folder/returned --strict "$(refusal $folder/returned 1 28 2 T10a 208-209)"
     declines all-returned --strict "$(refusal target/tests/all-returned 1 20 1 T4b 26)"
     declines all-returned '' "$all" "first broken: $(rule 20 1 T4b)"
-    declines only-payment '' "$all" "first broken: $(rule 28 1 T10a)"
-    declines no-digit-later '' "refused on ${pages[1]}: $(rule 33 3)" "first broken: $(rule 28 2 T10a)"
-    total='    with 1548 in Z3 this rule is kept'
-    declines wrong-total '' "$(refusal target/tests/wrong-total 1 42 6 Z3 20 "$total")" "first broken: $(rule 28 2 T10a)"
-    spares json '[.command, .sent, .refusal.number, .refusal.record, .first_broken, .fault.due, .written]' \
+    declines only-payment '' "$all" "$(back target/tests/only-payment 1 1 28 T10a 208-209 "$would")"
+    declines half-returned '' "$all" "$(back target/tests/half-returned 1 1 28 T10a 208-209 "$would")" \
+        "$(back target/tests/half-returned 1 2 29 T10b 211-245 "$would")"
+    declines most-wrong '' "$all" "first broken: $(rule 28 1 T10a)"
+    declines_though second-wrong $((1792 + 474)) X 33 3 T14b 475
+    declines_though second-wrong $((1792 + 470)) OX 33 3 T14a all
+    declines_though folder/returned $((4096 + 19)) 9 42 6 Z3 20 "$(kept 1548 Z3)"
+    declines_though folder/returned $((4096 + 34)) 3 41 6 Z4 35 "$(kept 5 Z4)"
+    declines_though folder/returned $((4096 + 5)) ' ' 40 6 Z3 6
+    declines_though folder/returned $((4096 + 34)) X 40 6 Z4 35
+    declines_though folder/returned $((4096 + 100)) = 40 6 Z5 101
+    spares json '[.command, .prepared, .refusal.number, .refusal.record, .first_broken, .fault.due, .written]' \
         '["prepare",false,42,4,null,1199,null]' 1 tool prepare refused "${new[@]}" --json
-    spares json '[.sent, .refusal.number, .first_broken.number, .first_broken.record]' '[false,43,20,1]' 1 \
+    spares json '[.prepared, .refusal.number, .first_broken.number, .first_broken.record]' '[false,43,20,1]' 1 \
         tool prepare ../all-returned "${new[@]}" --json
+    spares json '[.prepared, .refusal.number, [.returned[] | [.record, .refusal.number]]]' '[false,43,[[1,28],[2,29]]]' 1 \
+        tool prepare ../half-returned "${new[@]}" --json
 }
 
 # What prepare tells for machines, with the sums of what it writes.
 prepares_json() {
     local path
     new_folder
-    json '[.command, .file, .page, .sent, .file_number, .changes]' '["prepare","returned",1,true,1226111603,5]' 0 \
+    json '[.command, .file, .page, .prepared, .file_number, .changes]' '["prepare","returned",1,true,1226111603,5]' 0 \
         tool prepare returned "${new[@]}" --json
     cp $out target/tests/told-json
     tells '[[5,1548],[3,1219],[2,329]]' 0 \
         jq -c '[.submitted, .goes_on, .comes_back | [.payments, .euros]]' target/tests/told-json
-    tells '[[2,"79,75","SCHÄFER & SÖHNE",28,"T10a","LW0101"],[4,"250,00","J. MÜLLER",29,"T10b","TX0107"]]' 0 \
-        jq -c '[.returned[] | [.record, .amount, .payee, .refusal.number, .fault.field, .m8_code]]' target/tests/told-json
+    tells '[[2,"transfer",79,75,"SCHÄFER & SÖHNE",28,"T10a","LW0101"],[4,"cheque",250,0,"J. MÜLLER",29,"T10b","TX0107"]]' 0 \
+        jq -c '[.returned[] | [.record, .kind, .euros, .cents, .payee, .refusal.number, .fault.field, .m8_code]]' \
+        target/tests/told-json
     tells '[[0,"Q5",24,58],[3,"T10b",211,245],[5,"T10b",211,245]]' 0 \
         jq -c '[.changed[] | [.record, .field, .first_column, .last_column]]' target/tests/told-json
     tells '["GROß & COMPAÑIA                    ","GROS + COMPA IA                    "]' 0 \
@@ -411,7 +467,9 @@ asks() {
             keeps $path $option
         done
         for path in inner inner/ null lost ../fifo /dev/null; do
-            keeps $path $option
+            targets $option $path
+            spares says "kaaravizhe: $path: is no regular file, and is not written over" 2 \
+                tool prepare returned "${targets[@]}"
             spares says "kaaravizhe: $path: is no regular file, and is not written over" 2 \
                 tool prepare returned "${targets[@]}" --force
         done
@@ -439,14 +497,15 @@ asks() {
 
 # asks_beside OPTION: what ended runs left beside a target stays, whatever is asked for; a target has to be in a folder
 asks_beside() {
-    local left='is there already: another run is at work, or was ended; look at it, and remove it' force
+    local left='is there already: another run is at work, or was ended; if none is at work, remove it' force
+    local kept='is there already: a run that was ended left it, which was replacing it; move it away'
     for force in '' --force; do
         targets "$1" ended
         # shellcheck disable=SC2086
         spares says "kaaravizhe: ended.new: $left" 2 tool prepare returned "${targets[@]}" $force
         targets "$1" replaced
         # shellcheck disable=SC2086
-        spares says "kaaravizhe: replaced.old: $left" 2 tool prepare returned "${targets[@]}" $force
+        spares says "kaaravizhe: replaced.old: $kept" 2 tool prepare returned "${targets[@]}" $force
     done
     targets "$1" none/new
     spares says 'kaaravizhe: none/new: No such file or directory' 2 tool prepare returned "${targets[@]}"
@@ -497,7 +556,8 @@ asks_strange_names() {
     makes prepare sound --notes $'\xC4 notes' --out $'\xC4'
     makes restore $'\xC4' --notes $'\xC4 notes' --out $'\xC4 again'
     stands 'a name that is no text' samples/sound.dtazv $'\xC4 again'
-    spares says $'kaaravizhe: \xC4: No such file or directory' 2 tool prepare $'\xC4' "${new_pair[@]}"
+    spares says 'kaaravizhe: �: No such file or directory' 2 tool prepare $'\xC4' "${new_pair[@]}"
+    spares says 'kaaravizhe: �[1m�: No such file or directory' 2 tool prepare $'\x1B[1m\n' "${new_pair[@]}"
 }
 
 # of_files FORMAT PATH..: what stat tells in that format of these files of the folder
@@ -527,7 +587,7 @@ forces() {
     # nothing comes back, and the older list and M8 records are no longer there
     new_folder
     makes prepare sound "${old[@]}" --force
-    tells '0 0' 0 of_files %s old-list old-m8
+    tells "$(wc -c <target/tests/list-sound-1) 0" 0 of_files %s old-list old-m8
     # one older file by two names becomes two files; with nothing to be written over, --force changes nothing
     new_folder
     both_ways ln -f old-notes old-forwarded
@@ -694,7 +754,8 @@ killed() {
 # Runs that are killed when a file is to get its name, or an older one is to be removed.
 is_killed() {
     local path here='is there already, and is not written over without --force'
-    local left='is there already: another run is at work, or was ended; look at it, and remove it'
+    local left='is there already: another run is at work, or was ended; if none is at work, remove it'
+    local kept='is there already: a run that was ended left it, which was replacing it; move it away'
     rm -rf target/tests/good
     mkdir target/tests/good
     new_folder
@@ -708,21 +769,21 @@ is_killed() {
     for path in list m8 forwarded; do
         killed killed=new-$path "new-notes: $here" "${new[@]}"
         killed killed=new-$path "new-$path.new: $left" "${new[@]}" --force
-        killed killed=old-$path.old "old-notes.old: $left" "${old[@]}" --force
-        killed killed=old-$path "old-notes.old: $left" "${old[@]}" --force
-        killed no-links,killed=old-$path "old-notes.old: $left" "${old[@]}" --force
+        killed killed=old-$path.old "old-notes.old: $kept" "${old[@]}" --force
+        killed killed=old-$path "old-notes.old: $kept" "${old[@]}" --force
+        killed no-links,killed=old-$path "old-notes.old: $kept" "${old[@]}" --force
     done
-    killed killed-off=old-notes.old "old-notes.old: $left" "${old[@]}" --force
-    killed killed-off=old-forwarded.old "old-forwarded.old: $left" "${old[@]}" --force
+    killed killed-off=old-notes.old "old-notes.old: $kept" "${old[@]}" --force
+    killed killed-off=old-forwarded.old "old-forwarded.old: $kept" "${old[@]}" --force
 }
 
 # restored PAGE COUNT PATH ORIGINAL [SUBMITTED RETURNED]: what restore tells of that original
 restored() {
-    echo "restored on ${pages[$1]}: $2 characters put back"
+    echo "restored on ${pages[$1]}: $(counted "$2" character) put back"
     if [ $# = 4 ]; then
         echo "$3 is the submitted file"
     else
-        echo "$3 is what went on of the submitted file; $6 payments came back"
+        echo "$3 is what went on of the submitted file; $(counted "$6" payment) came back and stayed in that alone"
     fi
     echo "$(wc -c <"$4") bytes, SHA-256 $(sum "$4")"
     [ $# = 4 ] || echo "the submitted file has $(wc -c <"$5") bytes, SHA-256 $(sum "$5")"
@@ -731,8 +792,9 @@ restored() {
 # round FILE PAGE WORD..: what prepare writes of that file, restore makes into what went on of it; the pair is kept
 round() {
     local count came_back=()
-    count=$(sed -n 's/ characters changed in what goes on$//p' "target/tests/told-$1-$2")
-    [ ! -s "target/tests/list-$1-$2" ] || came_back=("$(named "$1")" "$(grep -c '^record ' "target/tests/list-$1-$2")")
+    count=$(sed -n 's/ characters* changed in what goes on$//p' "target/tests/told-$1-$2")
+    ! grep -q '^record ' "target/tests/list-$1-$2" ||
+        came_back=("$(named "$1")" "$(grep -c '^record ' "target/tests/list-$1-$2")")
     new_folder
     makes prepare "${@:3}" --page "$2" "${new_pair[@]}"
     restored "$2" "$count" inner/new "target/tests/goes-on-$1" "${came_back[@]}" >target/tests/due
@@ -795,7 +857,9 @@ restores_by_lists() {
     both_ways put_lists 'AT BR CL' 'PE VE US'
     as_before tells "refused: $(other_list cheque)" 1 tool restore new-forwarded --notes new-notes --out new --lists lists
     both_ways put_lists '# again\nCL\r\nBR AT CL' 'VE PE'
-    restored 1 "$(changes samples/returned.dtazv 1 1 2 3 5)" new $kept samples/returned.dtazv 1 >target/tests/due
+    local sums
+    sums=$(changes samples/returned.dtazv 1 1 2 3 5)
+    restored 1 "${sums% *}" new $kept samples/returned.dtazv 1 >target/tests/due
     held 'restore by other lists' target/tests/due 0 out \
         tool restore new-forwarded --notes new-notes --out new --lists lists
     stands 'restored by other lists' $kept new
@@ -902,23 +966,27 @@ refuses_other_notes() {
     # on another page; where none of the eight bytes is changed, the pages read alike
     refuses_summed sound-1 '2s/1/0/' "$no_pair"
     refuses_summed din-0 '2s/0/1/' "$no_pair"
-    refuses_summed sound-1 '2s/1/2/' 'notes: line 2: malformed; due is PAGE and then 0 or 1'
+}
+
+# refuses_instead NAME FILE WHY: that is so of the notes of a pair with that file of target/tests in place of the forwarded one
+refuses_instead() {
+    local known
+    known=$(known "target/tests/$1-forwarded")
+    with_pair "$1"
+    both_ways cp "$root/target/tests/$2" forwarded
+    refuses_pair "$3; the forwarded file has $((10#${known% *})) bytes and SHA-256 ${known#* }"
 }
 
 # Notes of other files, lists and layouts.
 refuses_other_files() {
-    local other known
-    known=$(known target/tests/sound-1-forwarded)
-    other="another file than the one that was forwarded, which has 2816 bytes and SHA-256 ${known#* }"
-    for forwarded in sound-0-forwarded din-1-forwarded cheques-1-forwarded goes-on-sound longer empty; do
-        with_pair sound-1
-        both_ways cp "$root/target/tests/$forwarded" forwarded
-        refuses_pair "$other"
-    done
+    local forwarded
     file_with 1 700 target/tests/sound-1-forwarded >target/tests/touched
-    with_pair sound-1
-    both_ways cp "$root/target/tests/touched" forwarded
-    refuses_pair "$other"
+    for forwarded in sound-0-forwarded din-1-forwarded cheques-1-forwarded touched longer empty; do
+        refuses_instead sound-1 $forwarded 'another file than the one that was forwarded'
+    done
+    refuses_instead sound-1 goes-on-sound 'this is the file that went on as it was written'
+    refuses_instead returned-1 goes-on-returned 'this is the file that went on as it was written'
+    refuses_instead returned-1 folder.new/returned 'this is the submitted file'
     refuses_summed sound-1 "3s/ .*/ $(printf %064d 0)/" "$(other_list transfer)"
     refuses_summed sound-1 "4s/ .*/ $(printf %064d 0)/" "$(other_list cheque)"
     # with the sum of another original: what comes back is not that one
@@ -928,8 +996,10 @@ refuses_other_files() {
 
 # Files that are no notes: cut short at each line, and in it; of another form, version or kind.
 refuses_no_notes() {
-    local line sum='64 hex digits (0 to 9, a to f)' known='7 digits, a space and 64 hex digits (0 to 9, a to f)'
-    local cut='the notes are cut short here' note='malformed; due is a note: 7 digits, a space and 2 hex digits'
+    local line end='and a line end (LF)' sum known note cut='the notes are cut short here'
+    sum="64 hex digits (0 to 9, a to f) $end"
+    known="7 digits, a space and $sum"
+    note="malformed; due is a note: 7 digits, a space, 2 hex digits $end"
     local none='this is no notes file of the desk'
     for line in $(seq 12); do
         refuses_notes sound-1 "$((line + 1)),\$d" "line $((line + 1)): $cut"
@@ -943,18 +1013,19 @@ refuses_no_notes() {
     refuses_notes sound-1 '1,$d' "line 1: $none"
     refuses_notes sound-1 '1s/KA/KO/' "line 1: $none"
     refuses_notes sound-1 '1s/NOTES/BOOK/' "line 1: $none"
-    refuses_notes sound-1 's/$/\r/' 'line 1: malformed; due is KAARAVIZHE NOTES 1'
-    refuses_notes sound-1 '1s/$/x/' 'line 1: malformed; due is KAARAVIZHE NOTES 1'
+    refuses_notes sound-1 's/$/\r/' "line 1: malformed; due is KAARAVIZHE NOTES 1 $end"
+    refuses_notes sound-1 '1s/$/x/' "line 1: malformed; due is KAARAVIZHE NOTES 1 $end"
     refuses_summed sound-1 '1s/1/2/' 'notes: line 1: another version of the layout; this desk reads version 1'
     refuses_summed sound-1 '1s/1/10/' 'notes: line 1: another version of the layout; this desk reads version 1'
-    refuses_summed sound-1 '2s/PAGE/Page/' 'notes: line 2: malformed; due is PAGE and then 0 or 1'
+    refuses_summed sound-1 '2s/1/2/' "notes: line 2: malformed; due is PAGE and then 0 or 1 $end"
+    refuses_summed sound-1 '2s/PAGE/Page/' "notes: line 2: malformed; due is PAGE and then 0 or 1 $end"
     refuses_summed sound-1 '3s/a/A/g' "notes: line 3: malformed; due is TRANSFER-LIST and then $sum"
     refuses_summed sound-1 '4s/.$//' "notes: line 4: malformed; due is CHEQUE-LIST and then $sum"
     refuses_summed sound-1 '5s/ 0/ /' "notes: line 5: malformed; due is SUBMITTED and then $known"
-    refuses_summed sound-1 '6s/0$//' 'notes: line 6: malformed; due is RETURNED and then 4 digits'
+    refuses_summed sound-1 '6s/0$//' "notes: line 6: malformed; due is RETURNED and then 4 digits $end"
     refuses_summed sound-1 '7s/ 0/  /' "notes: line 7: malformed; due is ORIGINAL and then $known"
     refuses_summed sound-1 '8s/$/0/' "notes: line 8: malformed; due is FORWARDED and then $known"
-    refuses_summed sound-1 '9s/3/x/' 'notes: line 9: malformed; due is NOTES and then 7 digits'
+    refuses_summed sound-1 '9s/3/x/' "notes: line 9: malformed; due is NOTES and then 7 digits $end"
     refuses_summed sound-1 '10s/DC/dc/' "notes: line 10: $note"
     refuses_summed sound-1 '11s/^0//' "notes: line 11: $note"
     refuses_summed sound-1 '12s/ /  /' "notes: line 12: $note"
@@ -968,7 +1039,7 @@ refuses_no_notes() {
     as_before tells "refused: sound: line 1: $none" 1 tool restore forwarded --notes sound --out new
     as_before tells "refused: forwarded: line 1: $none" 1 tool restore notes --notes forwarded --out new
     as_before tells "refused: /dev/zero: line 1: $none" 1 tool restore forwarded --notes /dev/zero --out new
-    as_before json '[.command, .refused]' "[\"restore\",\"sound: line 1: $none\"]" 1 \
+    as_before json '[.command, .restored, .why]' "[\"restore\",null,\"sound: line 1: $none\"]" 1 \
         tool restore forwarded --notes sound --out new --json
     # line 1 begins with less than its name
     printf KAARAVIZHE >target/tests/edited
@@ -994,11 +1065,13 @@ cannot_restore() {
         never_restored $path
     done
     never_restored lists/transfer.txt --lists lists
-    for path in returned old-notes inner null lost; do
+    for path in returned old-notes; do
         as_before says "kaaravizhe: $path: is there already, and is not written over without --force" 2 \
             tool restore "${pair[@]}" $path
     done
     for path in inner null lost; do
+        as_before says "kaaravizhe: $path: is no regular file, and is not written over" 2 \
+            tool restore "${pair[@]}" $path
         as_before says "kaaravizhe: $path: is no regular file, and is not written over" 2 \
             tool restore "${pair[@]}" $path --force
     done
@@ -1024,8 +1097,8 @@ cannot_restore() {
     as_before objects 'kaaravizhe: returned: ' tool restore "${pair[@]}" returned --force
 }
 
-# host BOOK WORD.., host --page PAGE BOOK WORD..: the words of the book examples, as the command has them. What it says has its
-# name before it.
+# host BOOK WORD.., host --page PAGE BOOK WORD..: the words of the book examples, as the command has them, which asks for one
+# more where a day is far ahead. What it says has its name before it.
 host() {
     local page=() book word status=0
     if [ "$1" = --page ]; then
@@ -1034,6 +1107,7 @@ host() {
     fi
     book=$1 word=$2
     shift 2
+    [ "$word" != take ] || page+=(--jump)
     tool book "$word" "$book" "$@" "${page[@]}" 2>target/tests/said || status=$?
     sed 's/^kaaravizhe: //;t;s/^/without its name: /' target/tests/said >&2
     return $status
@@ -1044,6 +1118,19 @@ obedient_host() (
     under=(obeying)
     host "$@"
 )
+
+# taken PAYMENTS EUROS RETURNED NUMBER DAY FREE HELD: what it tells of a number that is taken now; and how many are forgotten,
+# by what the folder's book holds before
+taken() {
+    local forgotten go=go come=come
+    forgotten=$((10#$(sed -n '3s/HELD //p' $folder/book) + 1 - $7))
+    [ "$1" != 1 ] || go=goes
+    [ "$3" != 1 ] || come=comes
+    echo "on ${pages[1]} $(counted "$1" payment) $go on, $3 $come back"
+    number "$4" "$5" "$1" "$2" "$6"
+    [ $forgotten = 0 ] || echo "$(counted $forgotten 'earlier file number') forgotten by this day"
+    on "$5" "$7"
+}
 
 # The cases of tests/books.sh that the command has in common with the book examples.
 keeps_book() {
@@ -1063,9 +1150,25 @@ keeps_book() {
     takes_at_once kaaravizhe kaaravizhe
 }
 
+# A day far ahead would make the book forget all that it holds, and has to be confirmed; not so in a book that holds nothing.
+asks_for_jump() {
+    local far="is 21 days after the book's, which would forget all that it holds; if it is right, add --jump"
+    spares_book one says "kaaravizhe: day 28 $far" 2 tool book take book 28 sound
+    spares_book one says "kaaravizhe: day 28 $far" 2 tool book take book 28 returned --json
+    with_book one
+    tells "$(taken 3 1199 0 1226111601 27 32 1)" 0 tool book take book 27 sound
+    holds 27 1226111601 27 3 1199
+    tells "$(taken 3 1219 2 1226111603 48 53 1)" 0 tool book take book 48 returned --jump
+    holds 48 1226111603 48 3 1219
+    new_folder
+    makes book new book
+    tells "$(taken 3 1199 0 1226111601 20410 20415 1)" 0 tool book take book 20410 sound
+    holds 20410 1226111601 20410 3 1199
+}
+
 # without_figures COUNT: what totals say where so many files were taken before the book had figures
 without_figures() {
-    echo "without the figures of $1 files, which were taken before the book had any"
+    echo "without the figures of $(counted "$1" file), taken before the book had any"
 }
 
 # A book of version 1: whenever it is read that is said, and the totals say how many files they lack.
@@ -1117,15 +1220,16 @@ takes_none() {
 
 # Files of which nothing goes on, by the way, the page and the lists that are named.
 takes_no_refused() {
-    local total='    with 1199 in Z3 this rule is kept'
+    local total path
+    total=$(kept 1199 Z3)
     takes_none folder/refused '' "$(refusal $folder/refused 1 42 4 Z3 18-20 "$total")"
     takes_none folder/returned --strict "$(refusal $folder/returned 1 28 2 T10a 208-209)"
     takes_none all-returned '' "refused on ${pages[1]}: number 43: ${words[43]}" "first broken: $(rule 20 1 T4b)"
-    takes_none cut '' "$(refusal - 1 2 1)"
+    takes_none cut '' "$(refusal target/tests/cut 1 2 1)"
     takes_none longer '' "$(refusal - 1 1 0)"
     takes_none name-iso '--page 0' "$(refusal target/tests/name-iso 0 12 0 Q5 24-58)"
     with_book one
-    tells "$(taken 3 1199 0 1226111601 12 17 1 | sed '1s/1 (ISO 8859-1)/0 (DIN 66003)/')" 0 \
+    tells "$(taken 3 1199 0 1226111601 12 17 1 | sed "1s/^on .*) /on ${pages[0]} /")" 0 \
         tool book take book 12 ../name-din --page 0 --strict
     holds 12 1226111601 12 3 1199
     with_book one
@@ -1134,7 +1238,6 @@ takes_no_refused() {
     tells "$(taken 2 1120 1 1226111601 12 17 1)" 0 tool book take book 12 sound --lists lists
     holds 12 1226111601 12 2 1120
     # what is no book, and what is no file
-    local path
     for path in link lost null inner; do
         spares says "kaaravizhe: $path: is not a regular file; a symbolic link is not followed" 2 tool book list $path
         spares says "kaaravizhe: $path: is not a regular file; a symbolic link is not followed" 2 tool book totals $path
@@ -1160,7 +1263,7 @@ keeps_book_json() {
     local one='{"file_number":1226111601,"day":7,"payments":3,"euros":1199,"free_from":12}'
     new_folder
     json '[.command, .book, .day, .held, .payments, .euros]' '["book new","book",0,0,0,0]' 0 tool book new book --json
-    json '[.command, .taken, .returned, .day, .held, .file]' "[\"book take\",true,0,7,1,$one]" 0 \
+    json '[.command, .taken, .returned, .forgotten, .day, .held, .file]' "[\"book take\",true,0,0,7,1,$one]" 0 \
         tool book take book 7 sound --json
     holds 7 1226111601 7 3 1199
     as_before json '[.command, .taken, .refusal.number, .refusal.words, .in_the_way]' \

@@ -1,5 +1,5 @@
-//! What the example hosts have in common: the page and the paths that their words name, a file as it is read, and how they
-//! tell what they find, and what they cannot do.
+//! What the example hosts have in common, and the command with them: the page and the paths that their words name, a file as
+//! it is read, and how they tell what they find, and what they cannot do.
 
 use super::desk::{Page, Refusal, MOST_BYTES};
 use std::ffi::{OsStr, OsString};

@@ -110,13 +110,13 @@ pub struct Prepare {
     /// Where its notes go; keep them, for restore needs them
     #[arg(long, value_name = "N")]
     pub notes: PathBuf,
-    /// Where the list of what comes back goes, in words; empty where nothing does
+    /// Where the list of what comes back goes, in words
     #[arg(long, value_name = "R")]
     pub returned: Option<PathBuf>,
     /// Where M8 records of what comes back go, 124 bytes each; empty where nothing does
     #[arg(long, value_name = "M")]
     pub m8: Option<PathBuf>,
-    /// Send the file as a whole or not at all
+    /// Send the file as a whole or not at all: then nothing comes back, and --returned and --m8 are not for it
     #[arg(long, conflicts_with_all = ["returned", "m8"])]
     pub strict: bool,
     #[command(flatten)]

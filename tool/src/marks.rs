@@ -4,14 +4,13 @@
 //! whole field is marked.
 
 use crate::common::{Q, T, Z};
-use crate::records::range;
+use crate::records::{range, LINE};
 use crate::sending::{payment, Way};
 use desk::{Columns, Refusal};
 
 /// What may stand in a byte's place: what most fields hold, and in a field of a line at most also digits and capitals.
 const FEW: &[u8] = b" 0A/";
 const MANY: &[u8] = b" 0A/123456789BCDEFGHIJKLMNOPQRSTUVWXYZ";
-const LINE: u64 = 35;
 
 /// A small file that breaks a rule in the same field as a large one, and where its record begins.
 pub struct Small {
@@ -52,7 +51,7 @@ pub fn marks(way: Way, small: &Small, refusal: Refusal, columns: Columns) -> Vec
 
 /// The columns in which another byte alone heals the file.
 fn healing(small: &Small, columns: Columns, is_healed: impl Fn(&[u8]) -> bool) -> Vec<u64> {
-    let tried = if columns.last - columns.first < LINE { MANY } else { FEW };
+    let tried = if range(columns).len() <= LINE { MANY } else { FEW };
     let mut copy = small.file.clone();
     let mut heals = |offset: &usize| {
         let place = small.begin + offset;

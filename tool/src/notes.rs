@@ -138,12 +138,9 @@ impl<'a> Lines<'a> {
 
     /// Reads the first line, which names the version.
     fn name(&mut self) -> Result<(), Flaw> {
-        let begin = &self.rest[..self.rest.len().min(NAME.len())];
-        self.number = 1;
-        if !NAME.as_bytes().starts_with(begin) || begin.is_empty() {
-            return Err(self.flaw("this is no notes file of the desk"));
+        if !self.rest.starts_with(NAME.as_bytes()) {
+            return Err(Flaw { line: 1, why: "this is no notes file of the desk".into() });
         }
-        self.number = 0;
         match self.line()?.strip_prefix(NAME.as_bytes()) {
             Some(version) if version == VERSION.as_bytes() => Ok(()),
             Some(version) if !version.is_empty() && version.iter().all(u8::is_ascii_digit) => {

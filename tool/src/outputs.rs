@@ -8,8 +8,9 @@
 //!
 //! Where a step fails, what was made is removed, what was replaced is put back, and everything is as it was.
 
-use crate::common::{failed, joined, wrong, Failure};
+use crate::common::{failed, joined, say, wrong, Failure};
 use crate::input::Identity;
+use crate::names::plain;
 use std::ffi::{CString, OsStr, OsString};
 use std::fs::{self, File, OpenOptions, Permissions};
 use std::io::{self, ErrorKind, Write};
@@ -72,8 +73,7 @@ impl Written {
             self.steps[i] = if self.targets[i].replaces.is_some() { self.replace(i)? } else { self.place(i)? };
         }
         self.steps.clear();
-        let replaced = self.targets.iter().filter(|target| target.replaces.is_some());
-        replaced.map(|target| remove_old(&target.old_path)).collect::<Result<(), Failure>>()?;
+        remove_old(&self.targets)?;
         self.targets.iter().try_for_each(|target| sync_folder(&target.path))
     }
 
@@ -103,10 +103,7 @@ impl Drop for Written {
         for step in self.steps.drain(..).rev() {
             match step {
                 Step::Remove(path) => drop(fs::remove_file(path)),
-                Step::PutBack { old_path, path } => {
-                    let _ = fs::rename(&old_path, path);
-                    let _ = fs::remove_file(old_path); // where both are names of one file, rename leaves both
-                }
+                Step::PutBack { old_path, path } => put_back(&old_path, &path),
                 Step::Nothing => {}
             }
         }
@@ -120,9 +117,16 @@ impl Target {
         }
         let [new_path, old_path] = [".new", ".old"].map(|end| PathBuf::from(joined(&[&path, &end])));
         let replaces = replaceable(path, read, is_forced)?;
-        for beside in [&new_path, &old_path] {
-            is_free(beside, "is there already: another run is at work, or was ended; look at it, and remove it")?;
-        }
+        is_free(
+            &new_path,
+            read,
+            "is there already: another run is at work, or was ended; if none is at work, remove it",
+        )?;
+        is_free(
+            &old_path,
+            read,
+            "is there already: a run that was ended left it, which was replacing it; move it away",
+        )?;
         Ok(Target { path: path.into(), new_path, old_path, replaces })
     }
 }
@@ -134,13 +138,17 @@ fn replaceable(path: &Path, read: &[Identity], is_forced: bool) -> Result<Option
         Err(error) if error.kind() == ErrorKind::NotFound => return Ok(None),
         Err(error) => return Err(failed(path, &error)),
     };
-    let is_read = fs::metadata(path).map_or(false, |metadata| read.contains(&Identity::of(&metadata)));
     match is_forced {
-        _ if is_read => Err(wrong(path, "is a file that is read, and is never written over")),
+        _ if is_among(path, read) => Err(wrong(path, "is a file that is read, and is never written over")),
+        _ if !metadata.is_file() => Err(wrong(path, "is no regular file, and is not written over")),
         false => Err(taken(path)),
-        true if !metadata.is_file() => Err(wrong(path, "is no regular file, and is not written over")),
         true => Ok(Some(Permissions::from_mode(metadata.permissions().mode() & 0o777))),
     }
+}
+
+/// Whether a path leads to one of these files.
+fn is_among(path: &Path, read: &[Identity]) -> bool {
+    fs::metadata(path).map_or(false, |metadata| read.contains(&Identity::of(&metadata)))
 }
 
 /// What is wrong with a path at which something stands.
@@ -149,8 +157,9 @@ fn taken(path: &Path) -> Failure {
 }
 
 /// Asks that nothing stands at a path, not even a link that leads nowhere.
-fn is_free(path: &Path, why: &str) -> Result<(), Failure> {
+fn is_free(path: &Path, read: &[Identity], why: &str) -> Result<(), Failure> {
     match fs::symlink_metadata(path) {
+        Ok(_) if is_among(path, read) => Err(wrong(path, "is a file that is read, and is never written over")),
         Ok(_) => Err(wrong(path, why)),
         Err(error) if error.kind() == ErrorKind::NotFound => Ok(()),
         Err(error) => Err(failed(path, &error)),
@@ -214,7 +223,11 @@ fn rename_free(from: &Path, to: &Path) -> io::Result<()> {
     match io::Error::last_os_error() {
         _ if renamed == 0 => Ok(()),
         error if matches!(error.raw_os_error(), Some(libc::EINVAL | libc::ENOSYS)) => {
-            fs::hard_link(from, to).and_then(|()| fs::remove_file(from))
+            fs::hard_link(from, to)?;
+            fs::remove_file(from).map_err(|error| {
+                let _ = fs::remove_file(to); // what failed first is what is told
+                error
+            })
         }
         error => Err(error),
     }
@@ -230,10 +243,30 @@ fn keep(path: &Path, old_path: &Path) -> io::Result<()> {
     }
 }
 
-/// Removes what was replaced, when all is in place.
-fn remove_old(path: &Path) -> Result<(), Failure> {
-    fs::remove_file(path)
-        .map_err(|error| joined(&[&"all is written, but what was replaced is still there: ", &failed(path, &error)]))
+/// Removes what was replaced, when all is in place; names all of it that is still there.
+fn remove_old(targets: &[Target]) -> Result<(), Failure> {
+    let replaced = targets.iter().filter(|target| target.replaces.is_some());
+    let left = replaced.filter_map(|target| fs::remove_file(&target.old_path).err().map(|error| (target, error)));
+    let left: Vec<Failure> = left.map(|(target, error)| failed(&target.old_path, &error)).collect();
+    match left.is_empty() {
+        true => Ok(()),
+        false => {
+            Err(joined(&[&"all is written, but what was replaced is still there: ", &left.join(OsStr::new("; "))]))
+        }
+    }
+}
+
+/// Gives what was replaced its name again, if it has lost it. Where that fails it stays, and is told.
+fn put_back(old_path: &Path, path: &Path) {
+    let identity = |path: &Path| fs::symlink_metadata(path).map(|metadata| Identity::of(&metadata)).ok();
+    if identity(old_path) == identity(path) {
+        let _ = fs::remove_file(old_path); // what failed before is what is told
+        return;
+    }
+    if let Err(error) = fs::rename(old_path, path) {
+        let why = failed(old_path, &error);
+        say(plain(joined(&[&"kaaravizhe: what was replaced is kept, but not under its name: ", &why])).into());
+    }
 }
 
 /// Syncs the folder of a path, where its file system offers that.

@@ -43,13 +43,15 @@ pub fn range(columns: Columns) -> Range<usize> {
     columns.first as usize - 1..columns.last as usize
 }
 
-/// The lines of a field, as people write them: rows of 35 bytes, with their columns.
+/// The bytes of a line.
+pub const LINE: usize = 35;
+
+/// The lines of a field, as people write them, with their columns.
 pub fn lines(columns: Columns) -> impl Iterator<Item = Columns> {
-    const LINE: u64 = 35;
     let Columns { field, first, last } = columns;
-    (first..=last).step_by(LINE as usize).map(move |begin| Columns {
+    (first..=last).step_by(LINE).map(move |begin| Columns {
         field,
         first: begin,
-        last: last.min(begin + LINE - 1),
+        last: last.min(begin + LINE as u64 - 1),
     })
 }

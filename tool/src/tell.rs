@@ -6,7 +6,7 @@ use crate::examine::{letters_elsewhere, other_page, ChangedLine, NotSent};
 use crate::faults::{self, Fault};
 use crate::html::{blamed, what_is_wrong, words};
 use crate::input::bar;
-use crate::records::{begin, lines, range};
+use crate::records::{begin, lines, range, LINE};
 use crate::sending::{payment, Way};
 use crate::table::read_as;
 use crate::text::{amount, number, text, whole_text, PAYEE, T14A, T14B};
@@ -25,12 +25,12 @@ pub enum End {
 /// Tells an answer on standard output, in words or as JSON.
 pub fn tell(
     is_json: bool,
-    answer: &Value,
+    json: impl FnOnce() -> Value,
     words: impl FnOnce(&mut dyn Write) -> io::Result<()>,
 ) -> Result<(), Failure> {
     told(|out| match is_json {
         true => {
-            serde_json::to_writer_pretty(&mut *out, answer)?;
+            serde_json::to_writer_pretty(&mut *out, &json())?;
             writeln!(out)
         }
         false => words(out),
@@ -57,15 +57,13 @@ pub fn code_page(page: Page) -> String {
 /// Where changed characters become spaces, and would be letters on the other code page, says so.
 pub fn tell_letters_elsewhere(page: Page, notes: &[u32], out: &mut dyn Write) -> io::Result<()> {
     let other = other_page(page);
-    match letters_elsewhere(page, notes) {
-        0 => Ok(()),
-        count => writeln!(
-            out,
-            "look: {count} of them become spaces, and on {} letters: if that is the office's, add --page {}",
-            code_page(other),
-            other as u32
-        ),
-    }
+    let (here, there) = match letters_elsewhere(page, notes) {
+        0 => return Ok(()),
+        1 => ("1 of them becomes a space".into(), "a letter"),
+        count => (format!("{count} of them become spaces"), "letters"),
+    };
+    let (other, number) = (code_page(other), other as u32);
+    writeln!(out, "look: {here}, and on {other} {there}: if that is the office's, add --page {number}")
 }
 
 /// What is shown of a field: as a page reads it, and as the rules read it.
@@ -130,7 +128,7 @@ impl Shown<'_> {
         let blamed = blamed(file, refusal);
         let begin = begin(refusal.record);
         let first = if refusal.number == 5 { blamed.start } else { begin };
-        let bytes = &file[first.min(file.len())..file.len().min(first + 35)];
+        let bytes = &file[first.min(file.len())..file.len().min(first + LINE)];
         if refusal.number == 1 || bytes.is_empty() {
             return Ok(());
         }
@@ -199,7 +197,8 @@ pub fn not_sent(way: Way, file: &[u8], not_sent: &NotSent, shown: &Shown, out: &
     let fault = faults::judged(way, file, not_sent.refusal);
     shown.refused(not_sent.refusal, fault.as_ref(), file, out)?;
     if let Some((forwarded, returned)) = &not_sent.all_back {
-        return ComesBack::of(way, file, forwarded, returned).iter().try_for_each(|back| back.words(shown, out));
+        let returned = ComesBack::of(way, file, forwarded, returned);
+        return returned.iter().try_for_each(|back| back.words("would come back", shown, out));
     }
     match not_sent.first_broken {
         Some(first) => writeln!(out, "first broken: {first}"),
@@ -244,11 +243,11 @@ impl<'a> ComesBack<'a> {
         all
     }
 
-    /// Its amount, its payee, the rule, the field in which it breaks that, and the code of an M8 record.
-    pub fn words(&self, shown: &Shown, out: &mut dyn Write) -> io::Result<()> {
+    /// That it comes back, or would; its amount and payee, the rule, the field in which it breaks that, and its M8 code.
+    pub fn words(&self, comes_back: &str, shown: &Shown, out: &mut dyn Write) -> io::Result<()> {
         let (amount, payee) = (amount(self.payment), text(shown.page, &self.payment[PAYEE]));
         let (record, kind) = (self.refusal.record, self.kind());
-        writeln!(out, "record {record} comes back: {kind}, {amount} euros to \"{payee}\"")?;
+        writeln!(out, "record {record} {comes_back}: {kind}, {amount} euros to \"{payee}\"")?;
         writeln!(out, "    {}", self.refusal)?;
         if let Some(fault) = &self.fault {
             shown.fault(fault, out)?;

@@ -2,16 +2,17 @@
 
 use super::way;
 use crate::cli;
-use crate::common::{failed, joined, say, Failure};
-use crate::examine::{send, Sent};
+use crate::common::{failed, say, Failure};
+use crate::examine::{send, NotSent};
 use crate::input::Input;
 use crate::keeping::{in_the_way, tell_book, tell_entry, tell_not_taken};
 use crate::lists::Countries;
-use crate::names::{counted, sorted};
+use crate::names::{counted, plain, sorted};
+use crate::sending::Way;
 use crate::table::replacements;
 use crate::tell::{self, code_page, name, refusal_json, tell, End, Shown};
 use desk::bookfile::{read_book, BookFile, BookFileError, Layout};
-use desk::{Book, Entry, Refusal, Totals};
+use desk::{Book, Entry, Prepared, Refusal, Totals};
 use serde_json::{json, Value};
 use std::io::{self, Write};
 use std::path::Path;
@@ -24,7 +25,7 @@ pub fn make(path: &Path, is_json: bool) -> Result<End, Failure> {
     let file = BookFile::create(path).map_err(failure)?;
     let book = file.book().clone();
     let written = file.write().map_err(failure)?;
-    tell(is_json, &book_json("book new", path, &book), |out| tell_book(&book, out))?;
+    tell(is_json, || book_json("book new", path, &book), |out| tell_book(&book, out))?;
     written.put_in_place().map_err(failure)?;
     Ok(End::Done)
 }
@@ -34,10 +35,14 @@ pub fn list(path: &Path, is_json: bool) -> Result<End, Failure> {
     let book = read(path)?;
     let mut told = book_json("book list", path, &book);
     tell::add(&mut told, json!({ "files": book.held().iter().map(entry_json).collect::<Vec<Value>>() }));
-    tell(is_json, &told, |out| {
-        tell_book(&book, out)?;
-        book.held().iter().try_for_each(|entry| tell_entry(entry, out))
-    })?;
+    tell(
+        is_json,
+        || told,
+        |out| {
+            tell_book(&book, out)?;
+            book.held().iter().try_for_each(|entry| tell_entry(entry, out))
+        },
+    )?;
     Ok(End::Done)
 }
 
@@ -45,10 +50,14 @@ pub fn list(path: &Path, is_json: bool) -> Result<End, Failure> {
 pub fn totals(path: &Path, is_json: bool) -> Result<End, Failure> {
     let book = read(path)?;
     let Totals { files, payments, euros } = book.totals();
-    tell(is_json, &book_json("book totals", path, &book), |out| {
-        writeln!(out, "totals on day {}: files {files}, payments {payments}, whole euros {euros}", book.day())?;
-        tell_unknown(&book, out)
-    })?;
+    tell(
+        is_json,
+        || book_json("book totals", path, &book),
+        |out| {
+            writeln!(out, "totals on day {}: files {files}, payments {payments}, whole euros {euros}", book.day())?;
+            tell_unknown(&book, out)
+        },
+    )?;
     Ok(End::Done)
 }
 
@@ -59,17 +68,11 @@ pub fn take(words: &cli::Take, is_json: bool) -> Result<End, Failure> {
     let file = Input::open(&words.file)?.read()?;
     let sent = match send(way, &file)? {
         Ok(sent) => sent,
-        Err(not_sent) => {
-            let shown = Shown { page: way.page, table: &replacements(way.page) };
-            let mut told = json!({ "command": "book take", "book": name(&words.book), "taken": false });
-            tell::add(&mut told, tell::not_sent_json(way, &file, &not_sent, &shown));
-            tell(is_json, &told, |out| tell::not_sent(way, &file, &not_sent, &shown, out))?;
-            return Ok(End::Refused);
-        }
+        Err(not_sent) => return refused(words, way, &file, &not_sent, is_json),
     };
     let number = desk::file_number(&file).expect("rules 11, 13 and 14 ask for digits");
-    let Sent { figures, .. } = &sent;
-    let asked = Entry { number, day: words.day, payments: figures.kept as u64, euros: figures.kept_euros };
+    let Prepared { kept, returned, kept_euros, .. } = sent.figures;
+    let asked = Entry { number, day: words.day, payments: kept as u64, euros: kept_euros };
     let (mut file, layout) = BookFile::open(&words.book).map_err(failure)?;
     say_layout(&words.book, layout);
     is_near(words, file.book())?;
@@ -81,19 +84,35 @@ pub fn take(words: &cli::Take, is_json: bool) -> Result<End, Failure> {
     let forgotten = held_before + 1 - book.held().len();
     let written = file.write().map_err(failure)?;
     let mut told = book_json("book take", &words.book, &book);
-    let taken =
-        json!({ "taken": true, "file": entry_json(&asked), "returned": figures.returned, "forgotten": forgotten });
+    let taken = json!({ "taken": true, "file": entry_json(&asked), "returned": returned, "forgotten": forgotten });
     tell::add(&mut told, taken);
-    tell(is_json, &told, |out| {
-        writeln!(out, "on {} {}", code_page(way.page), sorted(figures.kept, figures.returned))?;
-        tell_entry(&asked, out)?;
-        if forgotten > 0 {
-            writeln!(out, "{} forgotten by this day", counted(forgotten, "earlier file number"))?;
-        }
-        tell_book(&book, out)
-    })?;
+    tell(
+        is_json,
+        || told,
+        |out| {
+            writeln!(out, "on {} {}", code_page(way.page), sorted(kept, returned))?;
+            tell_entry(&asked, out)?;
+            if forgotten > 0 {
+                writeln!(out, "{} forgotten by this day", counted(forgotten, "earlier file number"))?;
+            }
+            tell_book(&book, out)
+        },
+    )?;
     written.put_in_place().map_err(failure)?;
     Ok(End::Done)
+}
+
+/// Tells why nothing of a file goes on: then its number is not taken.
+fn refused(words: &cli::Take, way: Way, file: &[u8], not_sent: &NotSent, is_json: bool) -> Result<End, Failure> {
+    let shown = Shown { page: way.page, table: &replacements(way.page) };
+    let json = || {
+        let mut told =
+            json!({ "command": "book take", "book": name(&words.book), "page": way.page as u32, "taken": false });
+        tell::add(&mut told, tell::not_sent_json(way, file, not_sent, &shown));
+        told
+    };
+    tell(is_json, json, |out| tell::not_sent(way, file, not_sent, &shown, out))?;
+    Ok(End::Refused)
 }
 
 /// Asks that a day is not far ahead of a book that holds something: typed too high it would make the book forget all of it, and
@@ -117,7 +136,7 @@ fn not_taken(words: &cli::Take, book: &Book, asked: Entry, refusal: Refusal, is_
     let file = entry_json(&asked);
     let refused = json!({ "taken": false, "file": file, "refusal": refusal_json(refusal), "in_the_way": in_the_way });
     tell::add(&mut told, refused);
-    tell(is_json, &told, |out| tell_not_taken(book, asked, refusal, out))?;
+    tell(is_json, || told, |out| tell_not_taken(book, asked, refusal, out))?;
     Ok(End::Refused)
 }
 
@@ -131,10 +150,17 @@ fn read(path: &Path) -> Result<Book, Failure> {
 /// Says how many held files have no figures: something goes on of each, so one without payments was taken before books had
 /// any (docs/BOOK-FILE.md, version 1).
 fn tell_unknown(book: &Book, out: &mut dyn Write) -> io::Result<()> {
-    match book.held().iter().filter(|entry| entry.payments == 0).count() {
+    match without_figures(book) {
         0 => Ok(()),
-        count => writeln!(out, "without the figures of {count} files, which were taken before the book had any"),
+        count => {
+            let files = counted(count, "file");
+            writeln!(out, "without the figures of {files}, taken before the book had any")
+        }
     }
+}
+
+fn without_figures(book: &Book) -> usize {
+    book.held().iter().filter(|entry| entry.payments == 0).count()
 }
 
 /// What a book has as a whole, for machines.
@@ -147,6 +173,7 @@ fn book_json(command: &str, path: &Path, book: &Book) -> Value {
         "held": files,
         "payments": payments,
         "euros": euros,
+        "without_figures": without_figures(book),
     })
 }
 
@@ -163,7 +190,7 @@ fn entry_json(entry: &Entry) -> Value {
 /// Says what a book that was read lacks.
 fn say_layout(path: &Path, layout: Layout) {
     if let Some(notice) = layout.notice() {
-        say(joined(&[&"kaaravizhe: ", &path, &": ", &notice]));
+        say(format!("kaaravizhe: {}: {notice}", plain(path)).into());
     }
 }
 

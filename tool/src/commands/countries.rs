@@ -18,8 +18,10 @@ pub fn countries(words: &cli::CountriesOf, is_json: bool) -> Result<End, Failure
         Kind::Cheque => ("cheque", cheque),
     };
     let list: Vec<String> = list.chunks_exact(2).map(|country| String::from_utf8_lossy(country).into()).collect();
-    tell(is_json, &json!({ "command": "countries", "kind": kind, "countries": list }), |out| {
-        list.chunks(IN_A_LINE).try_for_each(|line| writeln!(out, "{}", line.join(" ")))
-    })?;
+    tell(
+        is_json,
+        || json!({ "command": "countries", "kind": kind, "countries": &list }),
+        |out| list.chunks(IN_A_LINE).try_for_each(|line| writeln!(out, "{}", line.join(" "))),
+    )?;
     Ok(End::Done)
 }

@@ -43,13 +43,17 @@ fn sound(way: Way, mut answer: Value, file: &[u8], judgement: Judgement, is_json
             "letters_on_the_other_page": letters_elsewhere(way.page, &notes),
         }),
     );
-    tell(is_json, &answer, |out| {
-        let payments = counted(payments, "payment");
-        writeln!(out, "sound on {}: {payments}, {euros} euros and {cents} cents", code_page(way.page))?;
-        writeln!(out, "file number {number}")?;
-        writeln!(out, "{} would be changed", counted(notes.len(), "character"))?;
-        tell_letters_elsewhere(way.page, &notes, out)
-    })?;
+    tell(
+        is_json,
+        || answer,
+        |out| {
+            let payments = counted(payments, "payment");
+            writeln!(out, "sound on {}: {payments}, {euros} euros and {cents} cents", code_page(way.page))?;
+            writeln!(out, "file number {number}")?;
+            writeln!(out, "{} would be changed", counted(notes.len(), "character"))?;
+            tell_letters_elsewhere(way.page, &notes, out)
+        },
+    )?;
     Ok(End::Done)
 }
 
@@ -67,16 +71,22 @@ fn refused(way: Way, mut answer: Value, file: &[u8], refusal: Refusal, is_json: 
             "sound_on_page": other_page.map(|page| page as u32),
         }),
     );
-    tell(is_json, &answer, |out| {
-        shown.refused(refusal, fault.as_ref(), file, out)?;
-        if let Some(Prepared { kept, returned, .. }) = sorted {
-            writeln!(out, "prepare would send {} on, and return {returned}", counted(kept, "payment"))?;
-        }
-        match other_page {
-            Some(page) => writeln!(out, "on {} the file is sound: --page {} names it", code_page(page), page as u32),
-            None => Ok(()),
-        }
-    })?;
+    tell(
+        is_json,
+        || answer,
+        |out| {
+            shown.refused(refusal, fault.as_ref(), file, out)?;
+            if let Some(Prepared { kept, returned, .. }) = sorted {
+                writeln!(out, "prepare would send {} on, and return {returned}", counted(kept, "payment"))?;
+            }
+            match other_page {
+                Some(page) => {
+                    writeln!(out, "on {} the file is sound: --page {} names it", code_page(page), page as u32)
+                }
+                None => Ok(()),
+            }
+        },
+    )?;
     Ok(End::Refused)
 }
 

@@ -39,10 +39,14 @@ pub fn page(words: &cli::PageOf, is_json: bool) -> Result<End, Failure> {
     tell::add(&mut told, outcome_json(&sent));
     let html = json!({ "path": name(&words.out), "bytes": page.len(), "sha256": sum(page.as_bytes()).to_string() });
     tell::add(&mut told, json!({ "written": { "html": html } }));
-    tell(is_json, &told, |out| {
-        tell_outcome(way, &sent, out)?;
-        writeln!(out, "written: {}", plain(&words.out))
-    })?;
+    tell(
+        is_json,
+        || told,
+        |out| {
+            tell_outcome(way, &sent, out)?;
+            writeln!(out, "written: {}", plain(&words.out))
+        },
+    )?;
     written.put_in_place()?;
     Ok(if sent.is_ok() { End::Done } else { End::Refused })
 }

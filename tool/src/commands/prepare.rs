@@ -15,12 +15,14 @@ use crate::table::replacements;
 use crate::tell::{self, code_page, name, tell, tell_letters_elsewhere, ComesBack, End, Shown};
 use desk::{Prepared, M8_CODES};
 use serde_json::{json, Value};
+use std::ffi::OsStr;
 use std::io::{self, Write};
 use std::path::Path;
 
 /// What is told of a file of which something goes on.
 struct Told<'a> {
     words: &'a cli::Prepare,
+    input: &'a OsStr,
     way: Way<'a>,
     file: &'a [u8],
     sent: &'a Sent,
@@ -45,34 +47,37 @@ pub fn prepare(words: &cli::Prepare, is_json: bool) -> Result<End, Failure> {
     let paths = [Some(&words.notes), words.returned.as_ref(), words.m8.as_ref(), Some(&words.out)];
     let paths: Vec<&Path> = paths.into_iter().flatten().map(|path| path.as_path()).collect();
     let outputs = Outputs::plan(&paths, &read, words.replacing.force)?;
+    let input_name = input.name().to_owned();
     let file = input.read()?;
     let shown = Shown { page: way.page, table: &replacements(way.page) };
     let sent = match send(way, &file)? {
         Ok(sent) => sent,
-        Err(not_sent) => return refused(way, words, &file, &not_sent, &shown, is_json),
+        Err(not_sent) => return refused(way, &input_name, &file, &not_sent, &shown, is_json),
     };
     let returned = ComesBack::of(way, &file, &sent.forwarded, &sent.returned);
-    let told = Told { words, way, file: &file, sent: &sent, shown: &shown, returned };
+    let told = Told { words, input: &input_name, way, file: &file, sent: &sent, shown: &shown, returned };
     let files = told.outputs(&countries)?;
     let contents: Vec<&[u8]> = files.iter().map(|file| &file.bytes[..]).collect();
     let written = outputs.write(&contents)?;
-    tell(is_json, &told.json(&files), |out| told.words(&files, out))?;
+    tell(is_json, || told.json(&files), |out| told.words(&files, out))?;
     written.put_in_place()?;
     Ok(End::Done)
 }
 
 fn refused(
     way: Way,
-    words: &cli::Prepare,
+    input: &OsStr,
     file: &[u8],
     not_sent: &NotSent,
     shown: &Shown,
     is_json: bool,
 ) -> Result<End, Failure> {
-    let mut told =
-        json!({ "command": "prepare", "file": name(&words.file), "page": way.page as u32, "prepared": false });
-    tell::add(&mut told, tell::not_sent_json(way, file, not_sent, shown));
-    tell(is_json, &told, |out| {
+    let json = || {
+        let mut told = json!({ "command": "prepare", "file": name(input), "page": way.page as u32, "prepared": false });
+        tell::add(&mut told, tell::not_sent_json(way, file, not_sent, shown));
+        told
+    };
+    tell(is_json, json, |out| {
         tell::not_sent(way, file, not_sent, shown, out)?;
         writeln!(out, "nothing goes on, and nothing is written")
     })?;
@@ -128,7 +133,7 @@ impl<'a> Told<'a> {
         writeln!(out, "submitted:  {}", sum(kept + returned, kept_euros + returned_euros))?;
         writeln!(out, "goes on:    {}", sum(kept, kept_euros))?;
         writeln!(out, "comes back: {}", sum(returned, returned_euros))?;
-        self.returned.iter().try_for_each(|back| back.words(self.shown, out))?;
+        self.returned.iter().try_for_each(|back| back.words("comes back", self.shown, out))?;
         writeln!(out, "{} changed in what goes on", counted(notes, "character"))?;
         self.changed().iter().try_for_each(|line| tell::changed(self.way.page, line, out))?;
         tell_letters_elsewhere(self.way.page, &self.sent.notes, out)?;
@@ -147,7 +152,7 @@ impl<'a> Told<'a> {
         let number = desk::file_number(self.file).expect("rules 11, 13 and 14 ask for digits");
         let (payments, euros) = (counted(returned, "payment"), counted(returned_euros, "whole euro"));
         writeln!(out, "comes back of file number {number}: {payments}, {euros}")?;
-        self.returned.iter().try_for_each(|back| back.words(self.shown, out))
+        self.returned.iter().try_for_each(|back| back.words("comes back", self.shown, out))
     }
 
     fn changed(&self) -> Vec<ChangedLine<'a>> {
@@ -159,7 +164,7 @@ impl<'a> Told<'a> {
         let back = self.returned.iter().map(|back| back.json(self.shown));
         let mut told = json!({
             "command": "prepare",
-            "file": name(&self.words.file),
+            "file": name(self.input),
             "page": self.way.page as u32,
             "prepared": true,
             "file_number": desk::file_number(self.file),

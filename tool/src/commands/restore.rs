@@ -1,17 +1,22 @@
 //! `restore FORWARDED --notes N --out F`: the file that went on, as it was written.
 
 use crate::cli;
-use crate::common::Failure;
+use crate::common::{wrong, Failure};
 use crate::input::Input;
 use crate::lists::Countries;
 use crate::names::{counted, plain};
 use crate::notes::{Known, NotesFile, MOST_NOTES_BYTES};
 use crate::outputs::Outputs;
-use crate::tell::{code_page, name, tell, End};
-use serde_json::json;
+use crate::tell::{self, code_page, name, tell, End};
+use serde_json::{json, Value};
+use std::ffi::OsStr;
+use std::io::{self, Write};
 use std::path::Path;
 
 pub fn restore(words: &cli::Restore, is_json: bool) -> Result<End, Failure> {
+    if words.forwarded.as_os_str() == "-" && words.notes.as_os_str() == "-" {
+        return Err("the forwarded file and its notes cannot both come from standard input".into());
+    }
     let countries = Countries::of(words.lists.lists.as_deref())?;
     let (input, notes_input) = (Input::open(&words.forwarded)?, Input::open(&words.notes)?);
     let read = [&[input.identity(), notes_input.identity()][..], &countries.read].concat();
@@ -24,45 +29,55 @@ pub fn restore(words: &cli::Restore, is_json: bool) -> Result<End, Failure> {
         .and_then(|notes| original(&notes, &forwarded, &countries).map(|original| (notes, original)));
     let (notes, original) = match restored {
         Ok(restored) => restored,
-        Err(why) => return refused(&words.forwarded, &why, is_json),
+        Err(why) => return refused(&input_name, &why, is_json),
     };
+    is_not_submitted(&words.out, &notes)?;
     let written = outputs.write(&[&original])?;
-    let told = json!({
+    let mut told = json!({
         "command": "restore",
-        "forwarded": name(input_name),
+        "forwarded": name(&input_name),
         "notes": name(&words.notes),
         "restored": name(&words.out),
+    });
+    tell::add(&mut told, known_json(&notes));
+    tell(is_json, || told, |out| tell_restored(&notes, &plain(&words.out), out))?;
+    written.put_in_place()?;
+    Ok(End::Done)
+}
+
+/// Asks that what is at a path, and would be replaced, is not the submitted file: payments that came back are in that alone.
+fn is_not_submitted(path: &Path, notes: &NotesFile) -> Result<(), Failure> {
+    if !path.exists() || Known::of(&Input::open(path)?.read()?) != notes.submitted {
+        return Ok(());
+    }
+    Err(wrong(path, "is the submitted file, and is never written over"))
+}
+
+/// What the notes file says of the files.
+fn known_json(notes: &NotesFile) -> Value {
+    json!({
         "page": notes.page as u32,
-        "bytes": original.len(),
+        "bytes": notes.original.bytes,
         "sha256": notes.original.sum.to_string(),
         "changes": notes.notes.len(),
         "returned": notes.returned,
         "submitted_bytes": notes.submitted.bytes,
         "submitted_sha256": notes.submitted.sum.to_string(),
-    });
-    tell(is_json, &told, |out| {
-        writeln!(out, "restored on {}: {} put back", code_page(notes.page), counted(notes.notes.len(), "character"))?;
-        let path = plain(&words.out);
-        match notes.returned {
-            0 => writeln!(out, "{path} is the submitted file")?,
-            count => {
-                let back = counted(count, "payment");
-                writeln!(
-                    out,
-                    "{path} is what went on of the submitted file; {back} came back and stayed in that alone"
-                )?;
-            }
-        }
-        writeln!(out, "{} bytes, SHA-256 {}", original.len(), notes.original.sum)?;
-        match notes.returned {
-            0 => Ok(()),
-            _ => {
-                writeln!(out, "the submitted file has {} bytes, SHA-256 {}", notes.submitted.bytes, notes.submitted.sum)
-            }
-        }
-    })?;
-    written.put_in_place()?;
-    Ok(End::Done)
+    })
+}
+
+/// Tells what was restored; where payments came back, that this is not the submitted file.
+fn tell_restored(notes: &NotesFile, path: &str, out: &mut dyn Write) -> io::Result<()> {
+    let NotesFile { original, submitted, returned, .. } = notes;
+    writeln!(out, "restored on {}: {} put back", code_page(notes.page), counted(notes.notes.len(), "character"))?;
+    if *returned == 0 {
+        writeln!(out, "{path} is the submitted file")?;
+        return writeln!(out, "{} bytes, SHA-256 {}", original.bytes, original.sum);
+    }
+    let back = counted(returned, "payment");
+    writeln!(out, "{path} is what went on of the submitted file; {back} came back and stayed in that alone")?;
+    writeln!(out, "{} bytes, SHA-256 {}", original.bytes, original.sum)?;
+    writeln!(out, "the submitted file has {} bytes, SHA-256 {}", submitted.bytes, submitted.sum)
 }
 
 /// The file that went on; or in words why the notes do not lead to it.
@@ -94,8 +109,8 @@ fn original(notes: &NotesFile, forwarded: &[u8], countries: &Countries) -> Resul
     }
 }
 
-fn refused(forwarded: &Path, why: &str, is_json: bool) -> Result<End, Failure> {
+fn refused(forwarded: &OsStr, why: &str, is_json: bool) -> Result<End, Failure> {
     let told = json!({ "command": "restore", "forwarded": name(forwarded), "restored": null, "why": why });
-    tell(is_json, &told, |out| writeln!(out, "refused: {why}"))?;
+    tell(is_json, || told, |out| writeln!(out, "refused: {why}"))?;
     Ok(End::Refused)
 }

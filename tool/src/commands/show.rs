@@ -34,13 +34,17 @@ pub fn show(words: &cli::Show, is_json: bool) -> Result<End, Failure> {
         "hex": bytes.map(hex),
         "why": why,
     });
-    tell(is_json, &told, |out| match (bytes, &why) {
-        (Some(bytes), _) => {
-            writeln!(out, "record {record}, {columns}")?;
-            tell_lines(&shown, columns, bytes, out)
-        }
-        (None, why) => writeln!(out, "refused: {}", why.as_deref().unwrap_or_default()),
-    })?;
+    tell(
+        is_json,
+        || told,
+        |out| match (bytes, &why) {
+            (Some(bytes), _) => {
+                writeln!(out, "record {record}, {columns}")?;
+                tell_lines(&shown, columns, bytes, out)
+            }
+            (None, why) => writeln!(out, "refused: {}", why.as_deref().unwrap_or_default()),
+        },
+    )?;
     Ok(if bytes.is_some() { End::Done } else { End::Refused })
 }
 

@@ -145,7 +145,7 @@ pub static WORDS: Words = Words {
     wrong_length: "Record {} begins at byte {}, counted from 0. Its letter, the fifth byte, is {}, so its first four \
         bytes have to be {}.",
     wrong_letter: "Record {} begins at byte {}, counted from 0. Its letter, the fifth byte, has to be {}.",
-    after_z: "The Z record is the last. It ends before byte {}, counted from 0; {} more follow.",
+    after_z: "The Z record is the last. It ends before byte {}, counted from 0; the file has {} more.",
     t_or_z: "T or Z",
     line_end: "There is a line end among these bytes (hex 0D or 0A). A payment file is one row of bytes without line \
         ends.",

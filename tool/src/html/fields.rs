@@ -5,7 +5,7 @@ use super::terms::label;
 use super::words::{fill, Words};
 use super::Report;
 use crate::faults::Fault;
-use crate::records::{lines, range};
+use crate::records::{lines, range, LINE};
 use crate::table::{is_text, read_as};
 use desk::Columns;
 
@@ -92,8 +92,8 @@ impl Report<'_> {
 
     /// `line 1 before`; a field of one line has no number.
     fn line_name(&self, field: Columns, line: Columns, what: &str) -> String {
-        let number = (line.first - field.first) / 35 + 1;
-        let name = if field.last - field.first < 35 { String::new() } else { fill(self.words.line, &[&number]) };
+        let number = (line.first - field.first) / LINE as u64 + 1;
+        let name = if range(field).len() <= LINE { String::new() } else { fill(self.words.line, &[&number]) };
         format!("{name} {what}").trim().into()
     }
 }

@@ -31,10 +31,10 @@ pub static WORDS: Words = Words {
     what_sound_means: "In Ordnung heißt, dass keine Regel verletzt ist. Es heißt nicht, dass HBV-IMPAY alles in der \
         Datei annimmt.",
 
-    sound: counted("In Ordnung: die einzige Zahlung geht weiter", "In Ordnung: alle {} Zahlungen gehen weiter"),
+    sound: counted("In Ordnung: Die einzige Zahlung geht weiter", "In Ordnung: Alle {} Zahlungen gehen weiter"),
     some_back: counted("{} von {} Zahlungen kommt zurück", "{} von {} Zahlungen kommen zurück"),
     some_go_on: counted(", {} geht weiter", ", {} gehen weiter"),
-    refused: "Abgelehnt: nichts geht weiter",
+    refused: "Abgelehnt: Nichts geht weiter",
     lead_sound: "Nach {} gelesen, verletzt die Datei keine Regel.",
     lead_some: "Nach {} gelesen: Zahlungen, die eine Regel verletzen, kommen zurück, jede mit ihrer Regel; die \
         anderen gehen weiter.",
@@ -151,7 +151,7 @@ pub static WORDS: Words = Words {
     wrong_length: "Satz {} beginnt bei Byte {}, gezählt ab 0. Seine Satzart, das fünfte Byte, ist {}; seine ersten \
         vier Bytes müssen also {} sein.",
     wrong_letter: "Satz {} beginnt bei Byte {}, gezählt ab 0. Seine Satzart, das fünfte Byte, muss {} sein.",
-    after_z: "Der Z-Satz ist der letzte. Er endet vor Byte {}, gezählt ab 0; danach folgen noch {}.",
+    after_z: "Der Z-Satz ist der letzte. Er endet vor Byte {}, gezählt ab 0; danach hat die Datei noch {}.",
     t_or_z: "T oder Z",
     line_end: "Unter diesen Bytes ist ein Zeilenende (hex 0D oder 0A). Eine Zahlungsdatei ist eine Folge von Bytes \
         ohne Zeilenenden.",

@@ -45,7 +45,7 @@ impl Report<'_> {
             let Columns { field, .. } = fault.columns;
             known.push((words.record, fill(words.record_of, &[&fault.record.number, &fault.record.kind])));
             known.push((words.field, format!("<b>{field}</b> {}", label(words.lang, field))));
-            known.push((words.place, self.from_to(fault.columns)));
+            known.push((words.place, self.columns_alone(fault.columns)));
             known.push((words.marked, self.ranges(&fault.marked)));
             due_in = fill(words.due, &[&field]);
             known.extend(fault.due.map(|due| (&due_in[..], self.due(due))));
@@ -96,14 +96,14 @@ impl Report<'_> {
         let class = if is_fault { " class=\"fault\"" } else { "" };
         let breaks = fill(self.words.breaks, &[&fault.refusal.number]);
         let badge = if is_fault { format!("<p class=\"badge\">{breaks}</p>") } else { String::new() };
-        let place = self.from_to(columns);
+        let place = self.columns_alone(columns);
         let content = self.content(columns, fault.record.bytes, if is_fault { &fault.marked } else { &[] });
         format!(
             "<tr{class}><th scope=\"row\">{name}</th><td>{label}</td><td>{place}</td><td>{badge}{content}</td></tr>\n"
         )
     }
 
-    fn from_to(&self, columns: Columns) -> String {
+    fn columns_alone(&self, columns: Columns) -> String {
         let Columns { first, last, .. } = columns;
         if first == last {
             first.to_string()
