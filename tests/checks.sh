@@ -141,3 +141,24 @@ sample_with() {
 name_with() {
     sample_with "$1$(printf %34s '')" 23
 }
+
+# as_it_was CASE: nothing in the folder is changed, missing or new
+as_it_was() {
+    if ! diff -r --no-dereference $folder.before $folder >$out; then
+        echo "program case $1: the folder is not as it was: $(head -n 1 $out)" >&2
+        failed=1
+    fi
+}
+
+# to_no_reader COMMAND..: its standard output is a pipe that nobody reads any more
+to_no_reader() (
+    rm -f target/tests/pipe
+    mkfifo target/tests/pipe
+    exec 8<>target/tests/pipe 9>target/tests/pipe 8>&-
+    "$@" >&9 9>&-
+)
+
+# for_writing COMMAND..: its standard input is a file that is open for writing alone
+for_writing() {
+    "$@" 0>target/tests/written
+}
