@@ -3,7 +3,7 @@
 # there is lost.
 answer=       # what the last call answered
 value=        # of what was evaluated last
-session=      # of the one tab
+tab=          # the one that is open, by the id that its calls name
 loaded=       # whether a page was loaded since this was emptied
 complaints=   # what the browser said that no page should make it say
 calls=0
@@ -18,18 +18,18 @@ open_browser() {
         3<to-browser 4>from-browser >browser.log 2>&1 &
     browser=$!
     exec 5>to-browser 6<from-browser
-    session= complaints=
+    tab= complaints=
     call Target.createTarget '{"url":"about:blank"}'
     target=$(jq -r .result.targetId <<<"$answer")
     call Target.attachToTarget "{\"targetId\":\"$target\",\"flatten\":true}"
-    session=$(jq -r .result.sessionId <<<"$answer")
+    tab=$(jq -r .result.sessionId <<<"$answer")
     call Page.enable
     call Log.enable
     call Runtime.enable
 }
 
 close_browser() {
-    session=
+    tab=
     call Browser.close || kill "$browser" 2>/dev/null || :
     exec 5>&- 6<&-
     wait "$browser" 2>/dev/null || :
@@ -39,7 +39,7 @@ close_browser() {
 # call METHOD [PARAMETERS]: waits for the answer, and hears what happens meanwhile
 call() {
     calls=$((calls + 1))
-    printf '{"id":%d,"method":"%s","params":%s%s}\0' $calls "$1" "${2:-{\}}" "${session:+,\"sessionId\":\"$session\"}" >&5
+    printf '{"id":%d,"method":"%s","params":%s%s}\0' $calls "$1" "${2:-{\}}" "${tab:+,\"sessionId\":\"$tab\"}" >&5
     until hear && [[ $answer == "{\"id\":$calls,"* ]]; do
         [ -n "$answer" ] || return 1
     done

@@ -3,10 +3,14 @@
 use super::desk::Page;
 use std::ops::Range;
 
-/// Where fields stand in a T record; of T10b the first line.
+/// Where fields stand in a T record. The country is T10a: two letters and a space. The payee is the first line of T10b, and
+/// the kind, transfer or cheque, is T22.
+pub const COUNTRY: Range<usize> = 207..210;
+pub const COUNTRY_LETTERS: Range<usize> = 207..209;
 pub const PAYEE: Range<usize> = 210..245;
 pub const T14A: Range<usize> = 458..472;
 pub const T14B: Range<usize> = 472..475;
+pub const KIND: Range<usize> = 650..652;
 
 /// A text as the page reads it, without the spaces behind it.
 pub fn text(page: Page, bytes: &[u8]) -> String {

@@ -4,14 +4,13 @@ use crate::common::{Failure, Q, T, Z};
 use crate::records::{lines, range, record};
 use crate::sending::{self, payment, put_together, returned_at, Outgoing, Way, Z3, Z4};
 use crate::table::{replacements, SAMPLE};
-use crate::text::{number, T14A, T14B};
+use crate::text::{number, COUNTRY_LETTERS, T14A, T14B};
 use desk::{Columns, Note, Page, Prepared, Refusal};
 use std::ops::Range;
 
-/// Where fields stand in a T record; of T10a the letters.
+/// Where bank code and number of the payer's account stand in a T record.
 const T3: Range<usize> = 5..13;
 const T4B: Range<usize> = 16..26;
-const T10A: Range<usize> = 207..209;
 
 /// What goes on of a file, and what comes back.
 pub struct Sent {
@@ -123,7 +122,7 @@ fn with_sound_payment(way: Way, file: &[u8]) -> Option<Vec<u8>> {
     for place in [T3, T4B] {
         more[place.clone()].copy_from_slice(&payment(file, 1)[place]);
     }
-    more[T10A].copy_from_slice(way.lists.transfer.get(..2)?);
+    more[COUNTRY_LETTERS].copy_from_slice(way.lists.transfer.get(..2)?);
     let (euros, payments) = (number(&z[Z3]) + number(&more[T14A]), number(&z[Z4]) + 1);
     let totals = format!("{euros:015}{payments:015}");
     (totals.len() == 30).then(|| [front, &more, &z[..Z3.start], totals.as_bytes(), &z[Z4.end..]].concat())

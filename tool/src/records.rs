@@ -20,13 +20,19 @@ pub fn begin(number: u64) -> usize {
     }
 }
 
+/// The number of the last record of a file whose structure is right; `None` where the file is too short for one.
+pub fn last(file: &[u8]) -> Option<u64> {
+    let payments = file.len().checked_sub(Q + Z)? / T;
+    Some(payments as u64 + 1)
+}
+
 /// Where a record stands in a file whose structure is right, and its kind; `None` where there is no such record.
 pub fn place(file: &[u8], number: u64) -> Option<(char, Range<usize>)> {
-    let payments = (file.len().checked_sub(Q + Z)? / T) as u64;
+    let last = last(file)?;
     let (kind, length) = match number {
         0 => ('Q', Q),
-        _ if number <= payments => ('T', T),
-        _ if number == payments + 1 => ('Z', Z),
+        _ if number < last => ('T', T),
+        _ if number == last => ('Z', Z),
         _ => return None,
     };
     Some((kind, begin(number)..begin(number) + length))

@@ -9,7 +9,7 @@ use crate::input::bar;
 use crate::records::{begin, lines, range, LINE};
 use crate::sending::{payment, Way};
 use crate::table::read_as;
-use crate::text::{amount, number, text, whole_text, PAYEE, T14A, T14B};
+use crate::text::{amount, number, text, whole_text, KIND, PAYEE, T14A, T14B};
 use desk::{Columns, Page, Refusal, M8_CODES};
 use serde_json::{json, Value};
 use std::ffi::OsStr;
@@ -272,7 +272,7 @@ impl<'a> ComesBack<'a> {
 
     /// What T22 says of it (docs/RULES.md, 2.3).
     fn kind(&self) -> &'static str {
-        match &self.payment[650..652] {
+        match &self.payment[KIND] {
             b"00" => "transfer",
             b"20" | b"22" => "cheque",
             _ => "neither transfer nor cheque",

@@ -3,7 +3,7 @@
 use crate::cli;
 use crate::common::Failure;
 use crate::input::Input;
-use crate::records::{lines, place, range};
+use crate::records::{last, lines, place, range};
 use crate::table::replacements;
 use crate::tell::{hex, name, tell, End, Shown};
 use crate::text::whole_text;
@@ -64,10 +64,12 @@ fn columns_of(field: Field) -> Columns {
 /// Why there is no such field: the structure is broken, or there is no such record, or it has no such field.
 fn no_field(file: &[u8], record: u64, field: Field) -> String {
     let broken = desk::judge(Page::Iso8859_1, file, Lists::ANNEXES, &[]).err().filter(|refusal| refusal.number <= 5);
-    let last = (file.len() as u64).saturating_sub(512) / 768 + 1;
     match (broken, place(file, record)) {
         (Some(refusal), _) => refusal.to_string(),
-        (None, None) => format!("there is no record {record}: the last one is {last}"),
+        (None, None) => {
+            let last = last(file).expect("a file whose structure is right has its Q and Z");
+            format!("there is no record {record}: the last one is {last}")
+        }
         (None, Some((kind, _))) => format!("record {record} is a {kind} record, which has no field {field}"),
     }
 }

@@ -10,11 +10,7 @@ use super::Report;
 use crate::common::{Q, T};
 use crate::examine::Sent;
 use crate::tell::ComesBack;
-use crate::text::PAYEE;
-use std::ops::Range;
-
-/// Where the payee's country stands in a T record.
-const T10A: Range<usize> = 207..210;
+use crate::text::{COUNTRY, PAYEE};
 
 /// So many payments are in one table. Of many tables those that are not on the screen are not laid out (the class many), so
 /// that the longest file opens at once.
@@ -69,7 +65,7 @@ impl Report<'_> {
     /// A payment's row: record, amount, payee, country, and what is to be said of it.
     fn row(&self, record: u64, payment: &[u8], said: &str) -> Row {
         let amount = amount(self.words, thousandths(payment));
-        let [payee, country] = [PAYEE, T10A].map(|place| text(self.way.page, trimmed(&payment[place])));
+        let [payee, country] = [PAYEE, COUNTRY].map(|place| text(self.way.page, trimmed(&payment[place])));
         let html = format!(
             "<tr><th scope=\"row\">{record}</th><td>{amount}</td><td>{payee}</td><td>{country}</td><td>{said}</td></tr>\n"
         );
