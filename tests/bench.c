@@ -1,284 +1,287 @@
-/* Times the desk's judge, prepare and restore beside an independent implementation; its reader beside its own calls over
-   the whole file; and its default way of prepare beside the strict one; in one run. Where nothing else is said, prepare is
-   the strict way, as in all figures so far.
-
-   The environment variable DESK_EMULATED names the processor under an emulator. Each figure is the best of many timing
-   loops; no figure fails anything. */
-
-#define _GNU_SOURCE
+/* Judge, prepare and restore of the desk beside fast.c, made for speed, and plain.c, made for plainness; the default way of
+   prepare beside the strict one; and the reader beside judge and count of the whole file. Built by tests/bench.
+       bench PAYMENTS                             makes sure that all sides answer alike
+       bench PAYMENTS CALL CHANGES                nanoseconds a payment, of each side
+       bench PAYMENTS CALL CHANGES SIDE TIMES     one side, from 0 on, so many times: for counting
+   CALL is judge, prepare (the strict way), restore, sort or return (the default way, where nothing or one payment in ten comes
+   back), or cuts- and a number: the reader, in cuts of so many bytes. CHANGES is none or two, in a payment. */
 #include <stdbool.h>
 #include <stdio.h>
 #include <stdlib.h>
 #include <string.h>
-#include <time.h>
 
-#include "desk.h"
+#include "fast.h"
+#include "native.h"
 #include "plain.h"
 #include "sample.h"
+#include "timing.h"
 
-enum { DESK, PLAIN, SIDES };
-enum { IN_CUTS = DESK, WHOLE = PLAIN };                     /* the sides of READ, both the desk's */
-enum { BY_DEFAULT = DESK, STRICTLY = PLAIN };               /* the sides of SORT, both the desk's */
-enum { JUDGE, PREPARE, RESTORE, CALLS, SHOW = CALLS, READ, SORT };
-static const char *const call_name[CALLS] = {"judge", "prepare", "restore"};
+enum { JUDGE, PREPARE, RESTORE, SORT, RETURN, READ };
+enum { DESK, FAST, PLAIN, SIDES };
+enum { BY_DEFAULT, STRICTLY };                              /* the sides of SORT and RETURN, both the desk's */
+enum { IN_CUTS, WHOLE };                                    /* the sides of READ, likewise */
+enum { NONE = 0, TWO = 200 };                               /* one byte of text in 200 changes: two in a payment */
+enum { MOST_NOTES = 4 * MOST_PAYMENTS };
 
-static const size_t sizes[] = {1, 84, 6000, 9999};
-enum { SIZES = sizeof sizes / sizeof sizes[0], ROUNDS = 25, MOST_NOTES = 2 * MOST_PAYMENTS + 2 };
-static const double loop_seconds = 0.004;
+static const char *const side_name[SIDES] = {"the desk", "fast.c", "plain.c"};
+static const char *call_name;
+static int call;
+static size_t payments, n, notes_n, noted_n, cut_bytes;
+static uint8_t file[MOST_FILE], forwarded[MOST_FILE], submitted[MOST_FILE], out[MOST_FILE];
+static uint32_t notes[MOST_NOTES], noted[MOST_NOTES], returned[MOST_PAYMENTS];
 
-static uint8_t file[MOST_FILE], submitted[MOST_FILE], forwarded[MOST_FILE], out[MOST_FILE];
-static uint32_t notes[MOST_NOTES], notes_out[MOST_NOTES], returned[MOST_PAYMENTS];
-static size_t n, notes_n, cut_bytes;
-static const uint64_t no_taken[1];
-static volatile uint64_t sink;
-
-enum { PAGE = 0 };                                          /* DIN 66003, as in all figures so far */
 #define LISTS (const uint8_t *)annex_ii, ANNEX_II_BYTES, (const uint8_t *)annex_i, ANNEX_I_BYTES
+#define LENT LISTS, out, n, noted, MOST_NOTES
 
-/* The number of changes that the reader tells, fed in cuts; 0 where it refuses the file. */
+/* ---- The file ---- */
+
+static uint64_t random_state;
+
+/* xorshift64 */
+static uint32_t chance(void)
+{
+    random_state ^= random_state << 13;
+    random_state ^= random_state >> 7;
+    random_state ^= random_state << 17;
+    return (uint32_t)(random_state >> 32);
+}
+
+/* Capitals, small letters, digits and spaces; one byte in changes is one that the table changes. */
+static void put_text(uint8_t *at, int width, unsigned changes)
+{
+    static const char good[] = "ABCDEFGHIJKLMNOPQRSTUVWXYZ ETAOIN SHRDLU eta 0123456789 .,-/+% ";
+    static const char bad[] = "&$[\\]~'=*!\";<>?:()@#_^`|{}\x80\xC4\xD6\xDC\xDF\xFC\xFF\x01\x7F";
+    for (int i = 0; i < width; i++) {
+        bool change = changes && chance() % changes == 0;
+        at[i] = (uint8_t)(change ? bad[chance() % (sizeof bad - 1)] : good[chance() % (sizeof good - 1)]);
+    }
+}
+
+/* Q5 but for its first line is text. */
+static void put_q(uint8_t *q, unsigned changes)
+{
+    sample_q(q);
+    put(q + 13, "0000000042" "BUNDESKASSE MUSTERSTADT");
+    put_text(q + 58, 105, changes);
+    put(q + 163, "240229" "01" "240301");
+}
+
+/* A transfer full of text; in a quarter of them a clearing code and the bank stand in the place of a BIC. */
+static void put_t(uint8_t *t, const char *country, unsigned changes)
+{
+    uint64_t euros = chance() % 1000000;
+    sample_t(t, BIC_ALONE, country, euros, 1 + chance() % 99);
+    put(t + 5, "12345678" "EUR" "0123456789");
+    put(t + 210, "X");
+    put_text(t + 211, 139, changes);                                /* T10b */
+    put(t + 420, "/1");
+    put_text(t + 422, 33, changes);                                 /* T12 */
+    put_text(t + 475, 140, changes);                                /* T15 */
+    put_text(t + 623, 25, changes);                                 /* T20 */
+    put_text(t + 652, 62, changes);                                 /* T23, T24 */
+    t[649] = (uint8_t)('0' + chance() % 3);                         /* T21 */
+    for (int i = 53; i < 59; i++)                                   /* T8 */
+        t[i] = (uint8_t)('A' + chance() % 26);
+    memcpy(t + 57, country, 2);
+    if (chance() % 2)
+        put(t + 61, "XXX");
+    if (chance() % 4 == 0) {
+        put(t + 53, "SC123456   ");
+        memcpy(t + 64, country, 2);                                 /* T9a */
+        put(t + 67, "B");
+        put_text(t + 68, 139, changes);                             /* T9b */
+    }
+}
+
+/* The file, with its forwarded file and its notes, and the submitted one of which one payment in ten comes back. */
+static void make_files(unsigned changes)
+{
+    random_state = 88172645463325252u;
+    put_q(file, changes);
+    for (size_t i = 0; i < payments; i++)
+        put_t(file + 256 + 768 * i, annex_ii + 2 * i % ANNEX_II_BYTES, changes);
+    sample_z(file, payments);
+    notes_n = plain_prepare_strict(DESK_DIN_66003, file, n, LISTS, forwarded, n, notes, MOST_NOTES).notes;
+    memcpy(submitted, file, n);
+    for (size_t i = 9; i < payments; i += 10)
+        put(submitted + 256 + 768 * i + 455, "USD");                /* T13: rule 32 */
+}
+
+/* ---- The calls ---- */
+
+static uint64_t judge(int side)
+{
+    switch (side) {
+    case DESK: return desk_judge(file, n, LISTS);
+    case FAST: return fast_judge(file, n, LISTS);
+    default: return plain_judge(file, n, LISTS);
+    }
+}
+
+static uint64_t prepare(int side)
+{
+    if (side == FAST) {
+        fast_prepared answer = fast_prepare(file, n, LENT);
+        noted_n = answer.notes;
+        return answer.number;
+    }
+    if (side == PLAIN) {
+        plain_strict answer = plain_prepare_strict(DESK_DIN_66003, file, n, LENT);
+        noted_n = answer.notes;
+        return answer.number;
+    }
+    desk_strict answer = desk_prepare_strict(DESK_DIN_66003, file, n, LENT);
+    noted_n = answer.notes;
+    return answer.number;
+}
+
+static uint64_t restore(int side)
+{
+    switch (side) {
+    case DESK: return desk_restore(DESK_DIN_66003, forwarded, n, notes, notes_n, LISTS, out, n).number;
+    case FAST: return fast_restore(forwarded, n, notes, notes_n, LISTS, out, n).number;
+    default: return plain_restore(DESK_DIN_66003, forwarded, n, notes, notes_n, LISTS, out, n).number;
+    }
+}
+
+/* Whether so many payments come back, by the default way. */
+static bool sort(const uint8_t *of, size_t due)
+{
+    desk_prepared answer = desk_prepare(DESK_DIN_66003, of, n, LENT, returned, MOST_PAYMENTS);
+    noted_n = answer.notes;
+    return answer.number == 0 && answer.returned == due;
+}
+
+/* The number of changes that the reader tells, fed in cuts. */
 static uint64_t read_in_cuts(void)
 {
-    desk_reader reader = desk_reader_new(PAGE);
+#if __x86_64__
+    desk_reader reader = desk_reader_new(DESK_DIN_66003);
     for (size_t at = 0; at < n; at += cut_bytes)
         reader = desk_reader_feed(reader, file + at, n - at < cut_bytes ? n - at : cut_bytes, LISTS);
-    return desk_reader_end(reader, no_taken, 0).answer.changes;
+    return desk_reader_end(reader, NULL, 0).answer.changes;
+#else
+    return UINT64_MAX;      /* a reader is handed in as a value, which C does here in another way than the module expects it */
+#endif
 }
 
 /* The same work over the whole file: without a note place, prepare judges and counts the changes, and is refused. */
 static uint64_t judge_and_count(void)
 {
-    return desk_prepare_strict(PAGE, file, n, LISTS, out, n, notes_out, 0).number;
+    return desk_prepare_strict(DESK_DIN_66003, file, n, LISTS, out, n, noted, 0).number;
 }
 
-/* How many payments come back of the file with bad ones. */
-static uint64_t sort_submitted(void)
-{
-    return desk_prepare(PAGE, submitted, n, LISTS, out, n, notes_out, MOST_NOTES, returned, MOST_PAYMENTS).returned;
-}
-
-static uint64_t call_once(int call, int side)
+static bool as_due(int side)
 {
     switch (call) {
-    case JUDGE:
-        return side == DESK ? desk_judge_full(PAGE, file, n, LISTS, no_taken, 0).number
-                            : plain_judge_full(PAGE, file, n, LISTS, no_taken, 0).number;
-    case PREPARE:
-        return side == DESK ? desk_prepare_strict(PAGE, file, n, LISTS, out, n, notes_out, MOST_NOTES).number
-                            : plain_prepare_strict(PAGE, file, n, LISTS, out, n, notes_out, MOST_NOTES).number;
-    case RESTORE:
-        return side == DESK ? desk_restore(PAGE, forwarded, n, notes, notes_n, LISTS, out, n).number
-                            : plain_restore(PAGE, forwarded, n, notes, notes_n, LISTS, out, n).number;
-    case READ:
-        return side == IN_CUTS ? read_in_cuts() : judge_and_count();
-    case SORT:
-        return side == BY_DEFAULT ? sort_submitted() : call_once(PREPARE, DESK);
-    default:                                                /* the walk over the structure, and no rule */
-        return side == DESK ? desk_show(file, n, 1, 2).start : plain_show(file, n, 1, 2).start;
+    case JUDGE: return judge(side) == 0;
+    case PREPARE: return prepare(side) == 0;
+    case RESTORE: return restore(side) == 0;
+    case SORT: return side == BY_DEFAULT ? sort(file, 0) : prepare(DESK) == 0;
+    case RETURN: return side == BY_DEFAULT ? sort(submitted, payments / 10) : prepare(DESK) == 0;
+    default: return side == IN_CUTS ? read_in_cuts() == notes_n : judge_and_count() == DESK_NOTE_ROOM;
     }
 }
 
-/* Mostly transfers, one cheque in ten; in some records one or two characters to be changed. */
-static void make_file(size_t payments)
+static void stop_unless(bool due, const char *what, const char *who)
 {
-    uint64_t state = 20240229;
-    sample_q(file);
-    for (size_t r = 0; r < payments; r++) {
-        uint8_t *t = file + 256 + r * 768;
-        uint64_t chance = next_random(&state);
-        payment_kind kind = payments > 1 && chance % 10 == 0 ? CHEQUE
-                          : chance % 10 < 7 ? BIC_ALONE : chance % 10 == 7 ? BIC_AND_COUNTRY : CODE_AND_BANK;
-        const char *country = kind == CHEQUE ? annex_i + 2 * ((chance >> 8) % 22)
-                                             : annex_ii + 2 * ((chance >> 8) % 156);
-        sample_t(t, kind, country, (chance >> 16) % 100000 + 1, (unsigned)((chance >> 40) % 100));
-        put_number(t + 662, 6, r + 1);                      /* reference in T23 */
-        if ((chance >> 48) % 5 == 0)
-            t[215] = '\'';                                  /* T10b */
-        if ((chance >> 52) % 7 == 0)
-            t[498] = '&';                                   /* T15 */
-    }
-    sample_z(file, payments);
-    n = file_bytes(payments);
-    plain_strict p = plain_prepare_strict(PAGE, file, n, LISTS, forwarded, n, notes, MOST_NOTES);
-    notes_n = p.notes;
-    for (int call = 0; call < CALLS; call++)
-        for (int side = 0; side < SIDES; side++)
-            if (p.number != 0 || call_once(call, side) != 0) {
-                fprintf(stderr, "%s refuses the sample of %zu payments\n", call_name[call], payments);
-                exit(2);
-            }
+    if (due)
+        return;
+    fprintf(stderr, "bench: %s of %zu payments: not what is due of %s\n", what, payments, who);
+    exit(2);
 }
 
-/* Transfers to one country; in each payee a character to be changed, or in none. */
-static void make_even_file(size_t payments, const char *country, bool change)
+static void repeat(int side, size_t times)
 {
-    sample_q(file);
-    for (size_t r = 0; r < payments; r++) {
-        uint8_t *t = file + 256 + r * 768;
-        sample_t(t, BIC_ALONE, country, r + 1, 0);
-        if (change)
-            t[215] = '\'';
-    }
-    sample_z(file, payments);
-    n = file_bytes(payments);
+    while (times-- > 0)
+        stop_unless(as_due(side), call_name, call < SORT ? side_name[side] : side_name[DESK]);
 }
 
-static double seconds(void)
+/* ---- Whether all sides answer alike ---- */
+
+static bool went_on(void)
 {
-    struct timespec t;
-    clock_gettime(CLOCK_MONOTONIC, &t);
-    return (double)t.tv_sec + 1e-9 * (double)t.tv_nsec;
+    return noted_n == notes_n && memcmp(noted, notes, notes_n * sizeof *notes) == 0 && memcmp(out, forwarded, n) == 0;
 }
 
-static double time_loop(int call, int side, size_t times)
+static void clear(void)
 {
-    uint64_t sum = 0;
-    double start = seconds();
-    for (size_t i = 0; i < times; i++)
-        sum += call_once(call, side);
-    double end = seconds();
-    sink = sum;
-    return end - start;
+    memset(out, 0, sizeof out);
+    memset(noted, 0, sizeof noted);
 }
 
-/* Best seconds per call of each side; the sides take turns, so that both meet the same machine. */
-static void measure(int call, double best[SIDES])
+/* The default way of prepare: where nothing comes back as the strict way, else as plain.c has it. */
+static void compare_default_way(void)
 {
-    size_t times[SIDES];
+    static uint8_t out_due[MOST_FILE];
+    static uint32_t notes_due[MOST_NOTES], returned_due[MOST_PAYMENTS];
+    size_t back = payments / 10;
+    clear();
+    stop_unless(sort(file, 0) && went_on(), "the default way", side_name[DESK]);
+    plain_prepared due = plain_prepare(DESK_DIN_66003, submitted, n, LISTS, out_due, n, notes_due, MOST_NOTES,
+                                       returned_due, MOST_PAYMENTS);
+    stop_unless(due.number == 0 && due.returned == back, "a return", side_name[PLAIN]);
+    clear();
+    stop_unless(sort(submitted, back) && noted_n == due.notes && memcmp(out, out_due, file_bytes(due.kept)) == 0
+                    && memcmp(noted, notes_due, due.notes * sizeof *noted) == 0
+                    && memcmp(returned, returned_due, back * sizeof *returned) == 0,
+                "a return", side_name[DESK]);
+}
+
+static void compare(unsigned changes)
+{
+    make_files(changes);
+    stop_unless((notes_n > 0) == (changes > 0), "the number of changes", side_name[PLAIN]);
     for (int side = 0; side < SIDES; side++) {
-        times[side] = 1;
-        while (time_loop(call, side, times[side]) < loop_seconds)
-            times[side] *= 2;
-        best[side] = 1e9;
+        clear();
+        stop_unless(judge(side) == 0, "judge", side_name[side]);
+        stop_unless(prepare(side) == 0 && went_on(), "prepare", side_name[side]);
+        clear();
+        stop_unless(restore(side) == 0 && memcmp(out, file, n) == 0, "restore", side_name[side]);
     }
-    for (int round = 0; round < ROUNDS; round++)
-        for (int side = 0; side < SIDES; side++) {
-            double each = time_loop(call, side, times[side]) / (double)times[side];
-            if (each < best[side])
-                best[side] = each;
-        }
+    compare_default_way();
 }
 
-static void print_time(double s)
+static void print_times(void)
 {
-    if (s < 1e-6) printf(" %8.1f ns", s * 1e9);
-    else if (s < 1e-3) printf(" %8.2f us", s * 1e6);
-    else printf(" %8.3f ms", s * 1e3);
+    double best[SIDES];
+    int sides = call < SORT ? SIDES : 2;
+    best_times(repeat, 0, sides - 1, best);
+    for (int side = 0; side < sides; side++)
+        printf("%.1f%c", best[side] * 1e9 / (double)payments, side < sides - 1 ? ' ' : '\n');
 }
 
-/* emulated: the processor that an emulator runs on, or null. */
-static void print_machine(const char *emulated)
+/* READ with no cut_bytes where there is no such call. */
+static int call_named(const char *name)
 {
-    char line[256], model[256] = "no model told";
-    FILE *f = fopen("/proc/cpuinfo", "r");
-    while (f && fgets(line, sizeof line, f))
-        if (strncmp(line, "model name", 10) == 0 && strchr(line, ':')) {
-            snprintf(model, sizeof model, "%s", strchr(line, ':') + 2);
-            model[strcspn(model, "\n")] = 0;
-            break;
-        }
-    if (f)
-        fclose(f);
-    if (emulated)
-        printf("machine: x86-64, emulated on %s\n", emulated);
+    static const char *const names[READ] = {"judge", "prepare", "restore", "sort", "return"};
+    for (int i = 0; i < READ; i++)
+        if (strcmp(name, names[i]) == 0)
+            return i;
+    if (strncmp(name, "cuts-", 5) == 0)
+        cut_bytes = strtoul(name + 5, NULL, 10);
+    return READ;
+}
+
+int main(int argc, char **argv)
+{
+    payments = argc > 1 ? strtoul(argv[1], NULL, 10) : 0;
+    if (payments < 1 || payments > MOST_PAYMENTS || argc == 3)
+        return 2;
+    n = file_bytes(payments);
+    if (argc == 2) {
+        compare(NONE);
+        compare(TWO);
+        return 0;
+    }
+    call_name = argv[2];
+    call = call_named(call_name);
+    if (call == READ && cut_bytes == 0)
+        return 2;
+    make_files(strcmp(argv[3], "two") == 0 ? TWO : NONE);
+    if (argc == 6)
+        repeat(atoi(argv[4]), strtoul(argv[5], NULL, 10));
     else
-        printf("machine: x86-64, %s, not emulated\n", model);
-}
-
-/* Where the time goes: parts of the work, on 84 payments. */
-static void print_parts(void)
-{
-    static const struct { const char *name; int call, country; bool change; } part[] = {
-        {"structure alone (show)", SHOW, 0, false},
-        {"judge, first country of its list", JUDGE, 0, false},
-        {"judge, last country of its list", JUDGE, ANNEX_II_BYTES - 2, false},
-        {"prepare, nothing changes", PREPARE, 0, false},
-        {"prepare, a change in each payment", PREPARE, 0, true},
-    };
-    printf("\nparts of the work, per payment of 84\n");
-    for (size_t i = 0; i < sizeof part / sizeof part[0]; i++) {
-        double best[SIDES];
-        make_even_file(84, annex_ii + part[i].country, part[i].change);
-        measure(part[i].call, best);
-        printf("%-34s", part[i].name);
-        print_time(best[DESK] / 84);
-        print_time(best[PLAIN] / 84);
-        printf(" %7.2f\n", best[DESK] / best[PLAIN]);
-    }
-}
-
-/* What it costs that a file arrives in cuts: 9,999 payments, beside the judge and the count over the whole file. */
-static void print_reader(void)
-{
-    static const size_t cuts[] = {65536, 4096, 100};
-    printf("\nthe reader, 9,999 payments in cuts; ratio is reader / judge and count of the whole file\n");
-    make_file(MOST_PAYMENTS);
-    for (size_t i = 0; i < sizeof cuts / sizeof cuts[0]; i++) {
-        double best[SIDES];
-        cut_bytes = cuts[i];
-        if (read_in_cuts() != notes_n || judge_and_count() != DESK_NOTE_ROOM) {
-            fprintf(stderr, "the reader or prepare answers otherwise than is due\n");
-            exit(2);
-        }
-        measure(READ, best);
-        printf("cuts of %6zu bytes%16s", cut_bytes, "");
-        print_time(best[IN_CUTS]);
-        print_time(best[WHOLE]);
-        printf(" %7.2f\n", best[IN_CUTS] / best[WHOLE]);
-    }
-}
-
-/* What it costs to sort: all payments good, and one in ten returned, for its currency. */
-static void print_sorting(void)
-{
-    printf("\nprepare by the default way, 9,999 payments; ratio is default / strict way of the file with good ones alone\n");
-    make_file(MOST_PAYMENTS);
-    memcpy(submitted, file, n);
-    for (uint64_t bad = 0; bad <= 999; bad += 999) {
-        double best[SIDES];
-        for (uint64_t r = 10; r <= 10 * bad; r += 10)
-            put(submitted + 256 + (r - 1) * 768 + 455, "USD");      /* T13 */
-        if (sort_submitted() != bad) {
-            fprintf(stderr, "the default way answers otherwise than is due\n");
-            exit(2);
-        }
-        measure(SORT, best);
-        printf("%-34s", bad ? "one payment in ten returned" : "nothing returned");
-        print_time(best[BY_DEFAULT]);
-        print_time(best[STRICTLY]);
-        printf(" %7.2f\n", best[BY_DEFAULT] / best[STRICTLY]);
-    }
-}
-
-int main(void)
-{
-    print_machine(getenv("DESK_EMULATED"));
-    printf("best of %d loops of at least %.0f ms; ratio is desk / plain; prepare is the strict way\n\n", ROUNDS,
-           loop_seconds * 1e3);
-    printf("%8s %-8s %11s %11s %7s %11s %11s\n", "payments", "call", "desk", "plain", "ratio",
-           "desk MB/s", "plain MB/s");
-
-    static double best[SIZES][CALLS][SIDES];
-    for (size_t i = 0; i < SIZES; i++) {
-        make_file(sizes[i]);
-        for (int call = 0; call < CALLS; call++) {
-            double *b = best[i][call];
-            measure(call, b);
-            printf("%8zu %-8s", sizes[i], call_name[call]);
-            print_time(b[DESK]);
-            print_time(b[PLAIN]);
-            printf(" %7.2f %11.0f %11.0f\n", b[DESK] / b[PLAIN], (double)n / b[DESK] / 1e6, (double)n / b[PLAIN] / 1e6);
-            fflush(stdout);
-        }
-    }
-    printf("\ncost per payment, from 84 to 9,999 payments\n");
-    for (int call = 0; call < CALLS; call++)
-        for (int side = 0; side < SIDES; side++) {
-            double few = best[1][call][side] / (double)sizes[1], many = best[3][call][side] / (double)sizes[3];
-            printf("%-8s %-5s %8.1f ns to %8.1f ns, factor %.2f\n", call_name[call],
-                   side == DESK ? "desk" : "plain", few * 1e9, many * 1e9, many / few);
-        }
-    print_parts();
-    print_reader();
-    print_sorting();
+        print_times();
     return 0;
 }

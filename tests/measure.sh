@@ -1,5 +1,5 @@
-# For tests/search and tests/ways: programs over the desk's library, for the machine at hand and for x86-64, and the
-# instructions that the x86-64 ones execute. Sourced in the root of the tree, after tests/x86-64.sh; `at` is a folder below
+# For tests/bench, tests/search and tests/ways: programs over the desk's library, for the machine at hand and for x86-64, and
+# the instructions that the x86-64 ones execute. Sourced in the root of the tree, after tests/x86-64.sh; `at` is a folder below
 # target/ that is made anew.
 command -v gcc >/dev/null || quietly install_packages gcc libc6-dev
 command -v qemu-x86_64 >/dev/null || quietly install_packages qemu-user
@@ -34,14 +34,14 @@ programs() {
     else
         quietly "$kit/on/$machine/toolchain/bin/clang" --target="$machine-unknown-linux-gnu" -mcpu=native -O3 -c \
             -Wno-override-module -x ir "$at/module.bc" -o "$name.o"
-        gcc "$@" "$name.o" -o "$name.native"
+        gcc "$@" -mcpu=native "$name.o" -o "$name.native"
     fi
 }
 
 # count NAME.shipped WORD..: the instructions that it executes, handed these words
 count() {
     local said
-    said=$(qemu-x86_64 -plugin "$at/instructions.so" "$@" 2>&1)
+    said=$(env "$by_steps" qemu-x86_64 -plugin "$at/instructions.so" "$@" 2>&1)
     case $said in *[!0-9]*) echo "$said" >&2 && return 1 ;; esac
     echo "$said"
 }

@@ -2,16 +2,15 @@
    payment. Built by tests/search.
        search               nanoseconds a country: at the front, in the middle, at the end, all in turn, and one not there
        search WHICH TIMES   one of these, from 0 on, so many times 156 countries: for counting */
-#define _GNU_SOURCE
 #include <stdbool.h>
 #include <stdio.h>
 #include <stdlib.h>
-#include <time.h>
 
 #include "desk.h"
 #include "sample.h"
+#include "timing.h"
 
-enum { FRONT, MIDDLE, END, IN_TURN, ABSENT, COUNTRIES = ANNEX_II_BYTES / 2, ROUNDS = 25, LOOPS = 100 };
+enum { FRONT, MIDDLE, END, IN_TURN, ABSENT, COUNTRIES = ANNEX_II_BYTES / 2 };
 
 /* In turn, countries that follow one another stand far apart in the list. */
 static const char *country(int which, size_t i)
@@ -69,13 +68,6 @@ static void look_up(int which, size_t times)
         }
 }
 
-static double seconds(void)
-{
-    struct timespec t;
-    clock_gettime(CLOCK_MONOTONIC, &t);
-    return (double)t.tv_sec + 1e-9 * (double)t.tv_nsec;
-}
-
 int main(int argc, char **argv)
 {
     if (argc == 3) {
@@ -84,15 +76,10 @@ int main(int argc, char **argv)
         return 0;
     }
     for (int which = FRONT; which <= LAST; which++) {
-        double best = 1e9;
+        double best;
         begin(which);
-        for (int round = 0; round < ROUNDS; round++) {
-            double start = seconds();
-            look_up(which, LOOPS);
-            double each = (seconds() - start) / (LOOPS * COUNTRIES);
-            best = each < best ? each : best;
-        }
-        printf(" %.1f", best * 1e9);
+        best_times(look_up, which, which, &best);
+        printf(" %.1f", best * 1e9 / COUNTRIES);
     }
     printf("\n");
     return 0;

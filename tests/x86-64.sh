@@ -2,6 +2,8 @@
 # on another one with Debian's compilers for it, and under the kit's emulator. Read by the scripts beside it.
 kit=$(dirname "$(dirname "$(readlink -f "$(command -v rt)")")")
 flags="-O3 -std=c11 -Wall -Wextra -Werror -Ihosts/c"
+# glibc copies by one repeated instruction, which an emulator does byte by byte: let it copy by steps there
+by_steps=GLIBC_TUNABLES=glibc.cpu.x86_rep_movsb_threshold=100000000:glibc.cpu.x86_rep_stosb_threshold=100000000
 
 # What a command says is shown only where it fails. The scripts may run side by side: one such command at a time.
 quietly() {
@@ -28,9 +30,7 @@ if [ "$(uname -m)" = x86_64 ]; then
 else
     compiler="x86_64-linux-gnu-gcc -static"
     run=("$kit/on/$(uname -m)/toolchain/bin/qemu-x86_64")
-    export DESK_EMULATED=$(uname -m)
-    # glibc copies by one repeated instruction, which the emulator does byte by byte: let it copy by steps
-    export GLIBC_TUNABLES=glibc.cpu.x86_rep_movsb_threshold=100000000:glibc.cpu.x86_rep_stosb_threshold=100000000
+    export "$by_steps"
     command -v x86_64-linux-gnu-gcc >/dev/null || quietly install_packages gcc-x86-64-linux-gnu libc6-dev-amd64-cross
 fi
 
