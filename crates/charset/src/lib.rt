@@ -66,13 +66,30 @@ pub fn replaced(page: u32, b: u8) -> u8
     iso_8859_1(b)
 }
 
+// The same with nothing returned early: a loop over it is compiled to sixteen bytes a step. For one character that is slower.
+fn straight(page: u32, b: u8) -> u8
+    ensures { λ r. ⌜ r ≡ rep page b ⌝ }
+{
+    if unchanged(b) {
+        b
+    } else if b == b'&' {
+        b'+'
+    } else if b == b'$' {
+        b'S'
+    } else if page == 0 {
+        din_66003(b)
+    } else {
+        iso_8859_1(b)
+    }
+}
+
 // A stretch of text is replaced where it stands.
 pub fn replace(page: u32, part: &mut [u8])
     ensures { λ _. ⌜ now (part .exit) ≡ text page (now (part .entry)) ⌝ }
 {
     let mut i = 0;
     while i < part.len() {
-        part[i] = replaced(page, part[i]);
+        part[i] = straight(page, part[i]);
         i += 1;
     }
 }

@@ -1,9 +1,12 @@
 -- The turns of counting: a field more, a record more.
 use Prim.Native.Nat.{ℕ, _+_, _≤_, _<_}
-use mathlib.Core.Path.{_≡_, sym, ap, _∙_}
+use mathlib.Core.Path.{_≡_, refl, sym, ap, _∙_}
+use mathlib.Core.Bool.{false}
 use mathlib.Core.List.{List, [], _∷_}
 use native.Mathlib.Omega.{arith}
 use native.Mathlib.Nat.{add-zero}
+use borrow.Author.Tests.{ne-eqb}
+use lib.Dec.{eqb}
 use lib.ListN.{length, length-append}
 use Rattle.records.specs.Places.{part, qText, tText}
 use Rattle.records.specs.declared.Span.{Span}
@@ -50,6 +53,16 @@ module _ {file : List ℕ} (sized : Sized file) where
     count-all done page =
         counted .so-far ∙ ap length (noted-page 0 file 0 at page ∙ sym (all-noted page file at (begins-last sized (counted .begins) done)))
 
+    -- the file has no fewer, so it has some where these are some
+    pub count-some : (n ≡ 0 → ⊥) → (page : ℕ) → false ≡ eqb (length (notesOf page file)) 0
+    count-some some page =
+        let b = counted .begins in
+        let all = ap length (noted-page 0 file 0 (zAt file) page ∙ sym (all-noted page file (zAt file) (omega (arith, sized .long)))) in
+        let more = ap length (noted-more 0 file 0 at (zAt file) (omega arith) (omega (arith, b .high)) (omega (arith, b .high))) in
+        sym
+        (ne-eqb (length (notesOf page file)) 0
+        (λ none. some (omega (arith, counted .so-far, all, more, none, length-append (notedIn 0 0 at file) (notedIn 0 at (zAt file) file)))))
+
     pub count-next : {c : ℕ} → at < zAt file → c ≡ fieldChanges tTexts (between at (at + 768) file) → Counted file (n + c) (at + 768)
     count-next {c} more e =
         let b = counted .begins in
@@ -61,3 +74,10 @@ module _ {file : List ℕ} (sized : Sized file) where
           so-far =
               omega (arith, counted .so-far, here, ap length (noted-more 0 file 0 at (at + 768) (omega arith) (omega arith) (omega arith)), length-append (notedIn 0 0 at file) (notedIn 0 at (at + 768) file));
         }
+
+  -- the next record has some
+  pub next-some : {at : ℕ} → Counted file 0 at → at < zAt file → (fieldChanges tTexts (between at (at + 768) file) ≡ 0 → ⊥)
+      → (page : ℕ) → false ≡ eqb (length (notesOf page file)) 0
+  next-some {at} counted more some =
+      let c = fieldChanges tTexts (between at (at + 768) file) in
+      count-some (count-next counted {c = c} more refl) (λ (none : 0 + c ≡ 0). some (omega arith))

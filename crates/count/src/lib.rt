@@ -14,7 +14,7 @@ ghost use Rattle.forwarding.specs.Fields.{fieldChanges};
 ghost use Rattle.forwarding.specs.Sized.{Sized};
 
 // 1 for a character that is changed.
-fn changed(b: u8) -> u8
+pub fn changed(b: u8) -> u8
     ensures { λ r. ⌜ r ≡ changed b ⌝ }
 {
     if charset::unchanged(b) { 0 } else { 1 }
@@ -81,4 +81,36 @@ pub fn file(file: &[u8]) -> usize
         at = next;
     }
     n
+}
+
+// Whether a T record has none. Between its text fields, and up to eleven bytes behind them, a sound record has nothing that
+// would change: so mostly one look at all of it is enough, and 672 bytes are 21 steps of 32.
+fn t_none(rec: &[u8]) -> bool
+    requires { ⌜ length (now rec) ≡ 768 ⌝ }
+    ensures { λ r. ⌜ r ≡ eqb (fieldChanges tTexts (now (rec .entry))) 0 ⌝ }
+{
+    if none(&rec[53..725]) {
+        return true;
+    }
+    t_record(rec) == 0
+}
+
+// Whether a file has none.
+pub fn nothing(file: &[u8]) -> bool
+    requires { ⌜ Sized (now file) ⌝ }
+    ensures { λ r. ⌜ ((page : ℕ) → r ≡ eqb (length (notesOf page (now (file .entry)))) 0) ⌝ }
+{
+    if q_record(&file[0..Q::LENGTH]) != 0 {
+        return false;
+    }
+    let end = file.len() - Z::LENGTH;
+    let mut from = Q::LENGTH;
+    while from < end {
+        let to = from + T::LENGTH;
+        if !t_none(&file[from..to]) {
+            return false;
+        }
+        from = to;
+    }
+    true
 }

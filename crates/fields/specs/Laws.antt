@@ -1,7 +1,7 @@
 -- The tests and the value of a list as loops carry them along, and the bound of a value.
 use Prim.Native.Nat.{ℕ, suc, _+_, _*_, _^_, _-_, _<_, _≤_}
 use Prim.Native.Char.{code}
-use mathlib.Core.Path.{_≡_, refl, sym, ap, _∙_}
+use mathlib.Core.Path.{_≡_, refl, sym, ap, ap₂, _∙_}
 use mathlib.Core.Bool.{Bool, true, false, _&&_, _||_, cond, and-true, or-false, and-assoc, or-assoc, and-false, or-true, false≢true}
 use mathlib.Core.List.{List, [], _∷_, _++_}
 use native.Mathlib.Nat.{pow-suc, pow-le-pow-right}
@@ -12,8 +12,9 @@ use lib.Dec.{eqb, leb, lit<}
 use lib.ListN.{length, take, drop, getD, length-drop}
 use lib.Seq.{drop-drop}
 use Rattle.laws.specs.Ascii.{ascii}
+use Rattle.laws.specs.Choice.{both}
 use Rattle.laws.specs.Steps.{fold, next, next-two}
-use Rattle.fields.specs.Class.{member, every, allOf, same}
+use Rattle.fields.specs.Class.{member, every, allOf, blank, same}
 use Rattle.fields.specs.declared.Class.{Class}
 use Rattle.fields.specs.declared.Class.the-variants.{Digit, Zero, Space, Capital, CapitalOrDigit}
 use Rattle.charset.specs.Table.{within, among, unchanged, rep, text, unchanged-rep}
@@ -36,7 +37,7 @@ pub some-append : {A : Type 0} (test : A → Bool) (s t : List A) → some test 
 some-append test [] t = refl
 some-append test (x ∷ s) t = ap (λ (u : Bool). test x || u) (some-append test s t) ∙ sym (or-assoc (test x) (some test s) (some test t))
 
--- what is of a class is unchanged, and so it is of the class when it is replaced
+-- what is of a class is unchanged, and so it is of the class when it is replaced: a byte, and a list of them
 first-or-third : (x y z w : Bool) → x || z ≡ true → x || y || z || w ≡ true
 first-or-third true y z w e = refl
 first-or-third false true z w e = refl
@@ -54,8 +55,19 @@ member-unchanged Space b e = ap unchanged (eqb-true b (code " ") e)
 member-unchanged Capital b e = alphanumeric b (ap (λ (t : Bool). t || member Digit b) e)
 member-unchanged CapitalOrDigit b e = alphanumeric b e
 
+-- an unchanged character is of a class when it is replaced where it is so as it stands
+pub member-kept : (page : ℕ) (c : Class) (b : ℕ) → unchanged b ≡ true → member c (rep page b) ≡ member c b
+member-kept page c b e = ap (member c) (unchanged-rep page b e)
+
 pub member-rep : (page : ℕ) (c : Class) (b : ℕ) → member c b ≡ true → member c (rep page b) ≡ true
-member-rep page c b e = ap (member c) (unchanged-rep page b (member-unchanged c b e)) ∙ e
+member-rep page c b e = member-kept page c b (member-unchanged c b e) ∙ e
+
+pub all-rep : (page : ℕ) (c : Class) (s : List ℕ) → allOf c s ≡ true → allOf c (text page s) ≡ true
+unfolding allOf
+all-rep page c [] e = refl
+all-rep page c (x ∷ s) e =
+    let p = both (member c x) (every (member c) s) e in
+    rw (member-rep page c x (p .0)) (all-rep page c s (p .1))
 
 -- a turn over text: t is the answer of the test of the replaced character
 pub text-turn : (page : ℕ) (c : Class) (s : List ℕ) (i : ℕ) (whole t : Bool) → i < length s
@@ -63,6 +75,11 @@ pub text-turn : (page : ℕ) (c : Class) (s : List ℕ) (i : ℕ) (whole t : Boo
     → t && allOf c (text page (drop (i + 1) s)) ≡ whole
 unfolding allOf
 text-turn page c s i whole t h e q = rw q (rw (next s i 0 h) at e)
+
+-- one character of a text
+pub blank-one : (page : ℕ) (s : List ℕ) (i : ℕ) → i < length s → blank page (take 1 (drop i s)) ≡ eqb (rep page (getD s i 0)) (code " ")
+unfolding blank allOf
+blank-one page s i h = rw (next s i 0 h) (and-true _)
 
 -- a list's countries from place i on
 pub countries-next : (s : List ℕ) (i : ℕ) → i + 1 < length s
@@ -109,6 +126,22 @@ unlike [] [] h = absurd (h refl)
 unlike [] (y ∷ t) h = refl
 unlike (x ∷ s) [] h = refl
 unlike (x ∷ s) (y ∷ t) h = rw (unlike s t (λ e. h (ap suc e))) (and-false (eqb x y))
+
+-- lists that are the same
+pub same-is : (s t : List ℕ) → same s t ≡ true → s ≡ t
+unfolding same
+same-is [] [] e = refl
+same-is [] (y ∷ t) e = absurd (false≢true e)
+same-is (x ∷ s) [] e = absurd (false≢true e)
+same-is (x ∷ s) (y ∷ t) e = let w = both (eqb x y) (same s t) e in ap₂ _∷_ (eqb-true x y (w .0)) (same-is s t (w .1))
+
+-- two bytes, one by one
+pub same-two : (s : List ℕ) → length s ≡ 2 → (a b : ℕ) → eqb (getD s 0 0) a && eqb (getD s 1 0) b ≡ same s (a ∷ b ∷ [])
+unfolding same
+same-two [] h a b = absurd (omega arith)
+same-two (x ∷ []) h a b = absurd (omega arith)
+same-two (x ∷ (y ∷ [])) h a b = ap (λ (t : Bool). eqb x a && t) (sym (and-true (eqb y b)))
+same-two (x ∷ (y ∷ (z ∷ s))) h a b = absurd (omega arith)
 
 pub digit-lt : (b : ℕ) → digitOf b < 10
 digit-lt b = go (leb 48 b) (leb b 57) refl

@@ -43,12 +43,16 @@ pub fn all(c: Class, s: &[u8]) -> bool
     ok
 }
 
-// A replaced character is of the class. One that is so as it stands is unchanged, so the table is asked for the others alone.
+// A replaced character is of the class. One that is so as it stands is unchanged, and any other that is unchanged is not of
+// it, so the table is asked for the few that change.
 fn text_belongs(page: u32, c: Class, was: u8) -> bool
     ensures { λ r. ⌜ r ≡ member c (rep page was) ⌝ }
 {
     if belongs(c, was) {
         return true;
+    }
+    if charset::unchanged(was) {
+        return false;
     }
     let b = charset::replaced(page, was);
     belongs(c, b)
@@ -72,6 +76,17 @@ pub fn blank(page: u32, s: &[u8]) -> bool
     ensures { λ r. ⌜ r ≡ blank page (now (s .entry)) ⌝ }
 {
     all_text(page, Class::Space, s)
+}
+
+// The same, for a field that is blank as a rule. Spaces as they stand are told many a step, and only a field that holds
+// something else is read character by character.
+pub fn left_blank(page: u32, s: &[u8]) -> bool
+    ensures { λ r. ⌜ r ≡ blank page (now (s .entry)) ⌝ }
+{
+    if all(Class::Space, s) {
+        return true;
+    }
+    blank(page, s)
 }
 
 // The bytes are those of want.
@@ -142,16 +157,25 @@ pub fn is_date(s: &[u8]) -> bool
     all(Class::Digit, s) & (1 <= month) & (month <= 12) & (1 <= day) & (day <= days(year, month))
 }
 
-// The replaced characters of T8 have the shape of a BIC.
+// The replaced characters of T8 have the shape of a BIC. What has not mostly says so at its first characters, and nothing
+// behind them is read.
 pub fn bic_shaped(page: u32, t8: &[u8]) -> bool
     requires { ⌜ length (now t8) ≡ 11 ⌝ }
     ensures { λ r. ⌜ r ≡ bicShape page (now (t8 .entry)) ⌝ }
 {
-    all_text(page, Class::Capital, &t8[0..4])
-        & all_text(page, Class::Capital, &t8[4..6])
-        & all_text(page, Class::CapitalOrDigit, &t8[6..8])
-        & (all_text(page, Class::Space, &t8[8..11])
-            | all_text(page, Class::CapitalOrDigit, &t8[8..11]))
+    if !all_text(page, Class::Capital, &t8[0..4]) {
+        return false;
+    }
+    if !all_text(page, Class::Capital, &t8[4..6]) {
+        return false;
+    }
+    if !all_text(page, Class::CapitalOrDigit, &t8[6..8]) {
+        return false;
+    }
+    if all_text(page, Class::Space, &t8[8..11]) {
+        return true;
+    }
+    all_text(page, Class::CapitalOrDigit, &t8[8..11])
 }
 
 // Whether x y are a b. Each pair is one number, the first byte lowest: as the two lie in a list, so that they are read at

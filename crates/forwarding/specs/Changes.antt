@@ -6,12 +6,12 @@ use mathlib.Core.Bool.{Bool, true, false, _&&_, not, cond, and-true, and-assoc}
 use mathlib.Core.List.{List, [], _∷_, _++_}
 use native.Mathlib.Nat.{add-zero}
 use native.Mathlib.Omega.{arith}
-use borrow.Author.Tests.{eqb-true, ne-eqb}
+use borrow.Author.Tests.{eqb-true, eq-eqb, ne-eqb}
 use lib.Dec.{eqb, lit≤}
-use lib.ListN.{length}
-use Rattle.laws.specs.Choice.{either}
+use lib.ListN.{length, length-append}
+use Rattle.laws.specs.Choice.{either, both}
 use Rattle.laws.specs.Steps.{fold}
-use Rattle.charset.specs.Table.{unchanged, rep, text, changes-are}
+use Rattle.charset.specs.Table.{unchanged, rep, text, changes-are, unchanged-rep}
 use Rattle.forwarding.specs.Text.{textAt}
 use Rattle.forwarding.specs.Forwarded.{fwd, notes, forwarded, notesOf}
 use Rattle.forwarding.specs.Parts.{always, fwd-always, notes-append, notes-few}
@@ -67,6 +67,11 @@ pub changes-noted : (i : ℕ) (s : List ℕ) → changes s ≡ length (textNotes
 unfolding changes
 changes-noted i s = count-from 0 i s ∙ omega arith
 
+pub changes-append : (xs ys : List ℕ) → changes (xs ++ ys) ≡ changes xs + changes ys
+changes-append xs ys =
+    changes-noted 0 (xs ++ ys) ∙ ap length (text-append 0 xs ys) ∙ length-append (textNotes 0 xs) (textNotes (0 + length xs) ys)
+    ∙ ap₂ _+_ (sym (changes-noted 0 xs)) (sym (changes-noted (0 + length xs) ys))
+
 pub changes-few : (s : List ℕ) → changes s ≤ length s
 changes-few s = omega (arith, changes-noted 0 s, ap length (text-notes 0 0 s), notes-few (rep 0) always 0 s)
 
@@ -106,6 +111,14 @@ as-it-is page file e = without-notes (rep page) (textAt (length file)) 0 file e
 pub unchanged-text : (page : ℕ) (s : List ℕ) → changes s ≡ 0 → text page s ≡ s
 unchanged-text page s e =
     sym (fwd-always (rep page) 0 s) ∙ without-notes (rep page) always 0 s (ap length (text-notes page 0 s) ∙ sym (changes-noted 0 s) ∙ e)
+
+-- wherever its places are text
+pub unchanged-fwd : (page : ℕ) (t : ℕ → Bool) (i : ℕ) (s : List ℕ) → changes s ≡ 0 → fwd (rep page) t i s ≡ s
+unchanged-fwd page t i [] e = refl
+unchanged-fwd page t i (b ∷ s) e =
+    let h = both (unchanged b) (eqb (changes s) 0) (sym (none-more b s) ∙ eq-eqb (changes (b ∷ s)) 0 e) in
+    ap₂ _∷_ (either (λ (c : ℕ). c ≡ b) (t i) (rep page b) b (unchanged-rep page b (h .0)) refl)
+    (unchanged-fwd page t (suc i) s (eqb-true (changes s) 0 (h .1)))
 
 pub changed-few : (b : ℕ) → changed b ≤ 1
 changed-few b = either (λ (n : ℕ). n ≤ 1) (unchanged b) 0 1 (lit≤ tt) (lit≤ tt)

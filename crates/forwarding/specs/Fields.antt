@@ -9,16 +9,16 @@ use native.Mathlib.Omega.{arith}
 use borrow.Author.Tests.{leb-true, le-leb, lt-leb, lt-ltb, le-ltb}
 use lib.Dec.{leb, ltb, lit≤}
 use lib.ListN.{length, take, drop, length-append, take-append-drop}
-use lib.Seq.{length-take-le}
+use lib.Seq.{length-take-le, take-at, drop-at}
 use Rattle.charset.specs.Table.{rep, rep-rep, text}
 use Rattle.records.specs.Places.{part}
 use Rattle.records.specs.Inside.{part-le}
 use Rattle.records.specs.declared.Span.{Span}
-use Rattle.forwarding.specs.Between.{between, between-long, between-rest}
+use Rattle.forwarding.specs.Between.{between, between-long, between-rest, between-more}
 use Rattle.forwarding.specs.Text.{qTexts, tTexts, lies}
 use Rattle.forwarding.specs.Forwarded.{fwd, notes}
-use Rattle.forwarding.specs.Parts.{never, always, fwd-never, notes-never, fwd-always, fwd-append, notes-append, fwd-same, notes-same, fwd-fwd}
-use Rattle.forwarding.specs.Changes.{textNotes, text-notes, changes, changes-noted, changes-few}
+use Rattle.forwarding.specs.Parts.{never, always, fwd-never, notes-never, fwd-always, fwd-length, fwd-append, notes-append, fwd-same, notes-same, fwd-fwd}
+use Rattle.forwarding.specs.Changes.{textNotes, text-notes, changes, changes-noted, changes-append, changes-few, unchanged-text, unchanged-fwd}
 
 -- the notes of the fields of a record that stands at place a, and how many they are
 abbrev pub fieldNotes : List Span → ℕ → List ℕ → List ℕ
@@ -186,3 +186,54 @@ field-more page ss s rec xs ys h l e f =
     ∙ ap (fwd (rep page) (lies (s ∷ [])) 0) e
     ∙ fwd-fwd (rep page) (rep-rep page) (lies ss) (lies (s ∷ [])) 0 rec
     ∙ fwd-same (rep page) (λ k. lies ss k || lies (s ∷ []) k) (lies (ss ++ (s ∷ []))) 0 rec (λ k p q. sym (lies-more ss (s ∷ []) k))
+
+-- the bytes between two places of what is forwarded
+fwd-between : (r : ℕ → ℕ) (t : ℕ → Bool) (a e : ℕ) (xs : List ℕ) → a ≤ e → e ≤ length xs
+    → between a e (fwd r t 0 xs) ≡ fwd r t a (between a e xs)
+fwd-between r t a e xs h l =
+    let front = take a xs in
+    let field = between a e xs in
+    let rest = drop e xs in
+    let front-long : length front ≡ a = length-take-le a xs (omega arith) in
+    let to-a : 0 + length front ≡ a = omega arith in
+    let field-long : length field ≡ e - a = between-long a e xs l in
+    let from-a : drop a (fwd r t 0 xs) ≡ fwd r t a (drop a xs) =
+    ap (λ (l : List ℕ). drop a (fwd r t 0 l)) (sym (take-append-drop a xs))
+    ∙ ap (drop a) (fwd-append r t 0 front (drop a xs))
+    ∙ drop-at (fwd r t 0 front) (fwd r t (0 + length front) (drop a xs)) a (fwd-length r t 0 front ∙ front-long)
+    ∙ ap (λ (k : ℕ). fwd r t k (drop a xs)) to-a in
+    ap (take (e - a)) (from-a ∙ ap (fwd r t a) (between-rest a e xs h) ∙ fwd-append r t a field rest)
+    ∙ take-at (fwd r t a field) (fwd r t (a + length field) rest) (e - a) (fwd-length r t a field ∙ field-long)
+
+-- the fields ss are replaced, and one more has nothing to replace
+pub field-kept : (page : ℕ) (ss : List Span) (s : Span) (rec xs : List ℕ) → s .start ≤ s .end → s .end ≤ length rec
+    → xs ≡ fwd (rep page) (lies ss) 0 rec → changes (between (s .start) (s .end) rec) ≡ 0
+    → xs ≡ fwd (rep page) (lies (ss ++ (s ∷ []))) 0 rec
+field-kept page ss s rec xs h l e none =
+    let a = s .start in
+    let z = s .end in
+    let here : between a z xs ≡ between a z rec =
+    ap (between a z) e ∙ fwd-between (rep page) (lies ss) a z rec h l ∙ unchanged-fwd page (lies ss) a (between a z rec) none in
+    let same : between a z xs ≡ text page (between a z xs) =
+    here ∙ sym (unchanged-text page (between a z rec) none) ∙ ap (text page) (sym here) in
+    let long : length xs ≡ length rec = ap length e ∙ fwd-length (rep page) (lies ss) 0 rec in
+    let whole : xs ≡ take a xs ++ (between a z xs ++ drop (z - a) (drop a xs)) = simp take-append-drop in
+    whole ∙ field-more page ss s rec xs (between a z xs) h (omega arith) e same
+
+-- fields that lie where nothing changes have no change
+pub none-within : (lo hi : ℕ) (ss : List Span) (rec : List ℕ) → rising lo hi ss ≡ true → hi ≤ length rec
+    → changes (between lo hi rec) ≡ 0 → fieldChanges ss rec ≡ 0
+unfolding part
+none-within lo hi [] rec e l none = refl
+none-within lo hi (s ∷ ss) rec e l none =
+    let o = rises s ss e in
+    let end = rises-to (s .end) hi ss (o .more) in
+    let gap = between lo (s .start) rec in
+    let field = between (s .start) (s .end) rec in
+    let rest = between (s .end) hi rec in
+    let whole : between lo hi rec ≡ gap ++ (field ++ rest) =
+    between-more lo (s .start) rec (o .first) hi (omega (arith, o .last))
+    ∙ ap (λ (l : List ℕ). gap ++ l) (between-more (s .start) (s .end) rec (o .last) hi end) in
+    let sum = ap changes whole ∙ changes-append gap (field ++ rest) in
+    let two = changes-append field rest in
+    omega (arith, sum, two, none-within (s .end) hi ss rec (o .more) l (omega (arith, sum, two)))

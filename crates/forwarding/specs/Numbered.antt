@@ -42,3 +42,7 @@ module _ (k : ℕ) (low : 2 ≤ k) (high : k < 10) where
   -- and none is without any
   pub text-wide : tText k .start < tText k .end
   text-wide = ltb→lt _ _ (tested (λ s. ltb (s .start) (s .end)) (tt, (tt, (tt, (tt, (tt, (tt, (tt, (tt, tt)))))))))
+
+  -- and behind each stand fifteen bytes more of its record
+  pub text-before : tText k .end + 15 ≤ 768
+  text-before = leb→le _ _ (tested (λ s. leb (s .end + 15) 768) (tt, (tt, (tt, (tt, (tt, (tt, (tt, (tt, tt)))))))))

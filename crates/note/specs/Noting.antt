@@ -1,50 +1,42 @@
 -- The turns of noting: a field more, a record more.
 use Prim.Native.Nat.{ℕ, _+_, _-_, _≤_, _<_}
-use mathlib.Core.Path.{_≡_, sym, ap, ap₂, _∙_}
-use mathlib.Core.List.{List, [], _∷_, _++_, append-nil}
+use mathlib.Core.Path.{_≡_, sym, ap, _∙_}
+use mathlib.Core.List.{List, [], _∷_, _++_}
 use native.Mathlib.Omega.{arith}
 use lib.ListN.{length, drop, length-append, take-append-drop}
-use Rattle.records.specs.Places.{part, qText, tText}
+use Rattle.records.specs.Places.{qText, tText}
 use Rattle.records.specs.declared.Span.{Span}
 use Rattle.forwarding.specs.Text.{qTexts, tTexts}
 use Rattle.forwarding.specs.Forwarded.{notesOf}
-use Rattle.forwarding.specs.Changes.{textNotes, notes-page}
+use Rattle.forwarding.specs.Changes.{notes-page}
 use Rattle.forwarding.specs.Between.{between}
 use Rattle.forwarding.specs.Fields.{fieldNotes, notes-more}
 use Rattle.forwarding.specs.Numbered.{textsBelow, texts-more}
 use Rattle.forwarding.specs.Noted.{Noted, noted-none, noted-is, noted-length, noted-append}
 use Rattle.forwarding.specs.Pieces.{notedIn, noted-more, q-noted, t-noted, all-noted}
 use Rattle.forwarding.specs.Sized.{zAt, Sized, Begins, fits, begins-first, begins-next, begins-last}
-use Rattle.forwarding.specs.Found.{same-part}
 
-module _ (rec : List ℕ) {s : Span} {field : List ℕ} where
-  pub q5-notes : s ≡ qText 1 → field ≡ part s rec → textNotes (s .start) field ≡ fieldNotes qTexts 0 rec
-  q5-notes at bytes =
-      ap₂ (λ (s : Span) (f : List ℕ). textNotes (s .start) f) at (same-part at rec bytes)
-      ∙ sym (append-nil (textNotes (qText 1 .start) (part (qText 1) rec)))
+module _ (rec : List ℕ) {s : Span} where
+  pub q5-notes : s ≡ qText 1 → fieldNotes (s ∷ []) 0 rec ≡ fieldNotes qTexts 0 rec
+  q5-notes at = ap (λ (s : Span). fieldNotes (s ∷ []) 0 rec) at
 
   -- the notes of the fields of T below k, and of field k
-  module _ (k a : ℕ) (low : 2 ≤ k) (high : k < 10) (at : s ≡ tText k) (bytes : field ≡ part s rec) where
-    here : textNotes (a + s .start) field ≡ fieldNotes (tText k ∷ []) a rec
-    here =
-        ap₂ (λ (s : Span) (f : List ℕ). textNotes (a + s .start) f) at (same-part at rec bytes)
-        ∙ sym (append-nil (textNotes (a + tText k .start) (part (tText k) rec)))
-
-    more : fieldNotes (textsBelow (k + 1)) a rec ≡ fieldNotes (textsBelow k) a rec ++ textNotes (a + s .start) field
+  module _ (k a : ℕ) (low : 2 ≤ k) (high : k < 10) (at : s ≡ tText k) where
+    more : fieldNotes (textsBelow (k + 1)) a rec ≡ fieldNotes (textsBelow k) a rec ++ fieldNotes (s ∷ []) a rec
     more =
         ap (λ (ss : List Span). fieldNotes ss a rec) (texts-more k low high)
         ∙ notes-more (textsBelow k) (tText k ∷ []) a rec
-        ∙ ap (λ (l : List ℕ). fieldNotes (textsBelow k) a rec ++ l) (sym here)
+        ∙ ap (λ (s : Span). fieldNotes (textsBelow k) a rec ++ fieldNotes (s ∷ []) a rec) (sym at)
 
-    pub field-fits : length (fieldNotes (textsBelow k) a rec) + length (textNotes (a + s .start) field) ≤ length (fieldNotes tTexts a rec)
+    pub field-fits : length (fieldNotes (textsBelow k) a rec) + length (fieldNotes (s ∷ []) a rec) ≤ length (fieldNotes tTexts a rec)
     field-fits =
         let rest = drop (k + 1 - 2) tTexts in
         let all : fieldNotes tTexts a rec ≡ fieldNotes (textsBelow (k + 1)) a rec ++ fieldNotes rest a rec =
         ap (λ (ss : List Span). fieldNotes ss a rec) (sym (take-append-drop (k + 1 - 2) tTexts)) ∙ notes-more (textsBelow (k + 1)) rest a rec in
-        omega (arith, ap length all, length-append (fieldNotes (textsBelow (k + 1)) a rec) (fieldNotes rest a rec), ap length more, length-append (fieldNotes (textsBelow k) a rec) (textNotes (a + s .start) field))
+        omega (arith, ap length all, length-append (fieldNotes (textsBelow (k + 1)) a rec) (fieldNotes rest a rec), ap length more, length-append (fieldNotes (textsBelow k) a rec) (fieldNotes (s ∷ []) a rec))
 
     pub field-noted : {have n m : ℕ} {ps ps' ps'' : List ℕ} → have + length (fieldNotes tTexts a rec) ≤ length ps
-        → Noted (fieldNotes (textsBelow k) a rec) have ps ps' n → Noted (textNotes (a + s .start) field) n ps' ps'' m
+        → Noted (fieldNotes (textsBelow k) a rec) have ps ps' n → Noted (fieldNotes (s ∷ []) a rec) n ps' ps'' m
         → Noted (fieldNotes (textsBelow (k + 1)) a rec) have ps ps'' m
     field-noted fits u v = noted-is (sym more) (noted-append u v (omega (arith, field-fits)))
 

@@ -49,6 +49,14 @@ fn blank(page: u32, rec: &[u8], f: TField) -> bool
     fields::blank(page, T::field(rec, f))
 }
 
+// The same, for the fields that a cheque leaves blank.
+fn left_blank(page: u32, rec: &[u8], f: TField) -> bool
+    requires { ⌜ length (now rec) ≡ 768 ⌝ }
+    ensures { λ r. ⌜ r ≡ blank page (inT f (now (rec .entry))) ⌝ }
+{
+    fields::left_blank(page, T::field(rec, f))
+}
+
 // 20: a non-digit in T3 or T4b, or T4a not EUR.
 fn rule20(rec: &[u8]) -> usize
     requires { ⌜ length (now rec) ≡ 768 ⌝ }
@@ -105,12 +113,13 @@ fn rule22(rec: &[u8]) -> usize
     )
 }
 
-// T22 is 00.
+// T22 is 00. Half of the rules ask for the kind of payment, so its two bytes are compared as they stand.
 fn is_transfer(rec: &[u8]) -> bool
     requires { ⌜ length (now rec) ≡ 768 ⌝ }
     ensures { λ r. ⌜ r ≡ isTransfer (now (rec .entry)) ⌝ }
 {
-    is(rec, TField::T22, b"00")
+    let t22 = T::field(rec, TField::T22);
+    (t22[0] == b'0') & (t22[1] == b'0')
 }
 
 // T22 is 20 or 22.
@@ -118,7 +127,8 @@ fn is_cheque(rec: &[u8]) -> bool
     requires { ⌜ length (now rec) ≡ 768 ⌝ }
     ensures { λ r. ⌜ r ≡ isCheque (now (rec .entry)) ⌝ }
 {
-    is(rec, TField::T22, b"20") | is(rec, TField::T22, b"22")
+    let t22 = T::field(rec, TField::T22);
+    (t22[0] == b'2') & ((t22[1] == b'0') | (t22[1] == b'2'))
 }
 
 // 23: T22 is not 00 (transfer), 20 or 22 (cheques).
@@ -148,12 +158,12 @@ fn rule25(page: u32, rec: &[u8]) -> usize
         return 0;
     }
     at(
-        blank(page, rec, TField::T8),
+        left_blank(page, rec, TField::T8),
         TField::T8,
         at(
             all(Class::Space, rec, TField::T9a),
             TField::T9a,
-            at(blank(page, rec, TField::T9b), TField::T9b, 0),
+            at(left_blank(page, rec, TField::T9b), TField::T9b, 0),
         ),
     )
 }
@@ -257,19 +267,20 @@ fn rule30(rec: &[u8]) -> usize
     at(all(Class::Space, rec, TField::T11), TField::T11, 0)
 }
 
-// 31: transfer: T12 does not begin with / and a non-space; cheque: T12 not blank.
+// 31: transfer: T12 does not begin with / and a non-space; cheque: T12 not blank. Only / becomes /, so the first is
+// compared as it stands.
 fn rule31(page: u32, rec: &[u8]) -> usize
     requires { ⌜ length (now rec) ≡ 768 ⌝ }
     ensures { λ r. ⌜ r ≡ rule31 page (now (rec .entry)) ⌝ }
 {
     let t12 = T::field(rec, TField::T12);
     if is_transfer(rec) {
-        let slash = charset::replaced(page, t12[0]) == b'/';
-        let more = charset::replaced(page, t12[1]) != b' ';
+        let slash = t12[0] == b'/';
+        let more = !fields::blank(page, &t12[1..2]);
         return at(slash & more, TField::T12, 0);
     }
     if is_cheque(rec) {
-        return at(fields::blank(page, t12), TField::T12, 0);
+        return at(left_blank(page, rec, TField::T12), TField::T12, 0);
     }
     0
 }

@@ -6,51 +6,63 @@ use native.Mathlib.Omega.{arith}
 use lib.ListN.{length, take, drop, length-drop}
 use lib.Seq.{take-length, take-all}
 use Rattle.laws.specs.Steps.{over}
-use Rattle.charset.specs.Table.{rep, text}
-use Rattle.records.specs.Places.{qText, tText}
+use Rattle.charset.specs.Table.{rep}
+use Rattle.records.specs.Places.{part, tText}
 use Rattle.records.specs.declared.Span.{Span}
 use Rattle.forwarding.specs.Text.{lies, qTexts, tTexts}
 use Rattle.forwarding.specs.Forwarded.{fwd, forwarded}
 use Rattle.forwarding.specs.Put.{put, put-part}
 use Rattle.forwarding.specs.Parts.{fwd-never, fwd-length}
 use Rattle.forwarding.specs.Between.{between, between-long}
-use Rattle.forwarding.specs.Fields.{field-more}
+use Rattle.forwarding.specs.Changes.{textNotes, changes, changes-noted}
+use Rattle.forwarding.specs.Fields.{fieldNotes}
+use Rattle.forwarding.specs.Noted.{Noted, firstNotes}
 use Rattle.forwarding.specs.Numbered.{textsBelow, texts-more}
 use Rattle.forwarding.specs.Pieces.{sentIn, sent-long, q-sent, t-sent}
 use Rattle.forwarding.specs.Sent.{sent-none, sent-same, sent-then, sent-all}
 use Rattle.forwarding.specs.Sized.{zAt, Sized, Begins, fits, begins-first, begins-next, begins-last}
-use Rattle.forwarding.specs.Found.{q-in, t-in}
 
 -- xs, after its part from a up to below e was lent and came back as ys
 abbrev pub backAs : ℕ → ℕ → List ℕ → List ℕ → List ℕ
 backAs a e ys xs = take a xs ++ (ys ++ drop (e - a) (drop a xs))
 
+-- a text field s of a record that stands at a, and at least fifteen bytes more behind it
+module _ (s : Span) (rec : List ℕ) (h : s .start ≤ s .end) (l : s .end + 15 ≤ length rec) where
+  -- the bytes from its beginning on, as they are lent
+  abbrev pub fromThere : List ℕ
+  fromThere = take (length rec - s .start) (drop (s .start) rec)
+
+  pub there-long : length fromThere ≡ length rec - s .start
+  there-long = between-long (s .start) (length rec) rec (omega arith)
+
+  module _ (a : ℕ) where
+    pub its-notes : firstNotes (a + s .start) (s .end - s .start) fromThere ≡ fieldNotes (s ∷ []) a rec
+    unfolding part
+    its-notes =
+        ap (firstNotes (a + s .start) (s .end - s .start)) (take-all (length rec - s .start) (drop (s .start) rec) (omega (arith, length-drop (s .start) rec)))
+        ∙ sym (append-nil (textNotes (a + s .start) (part s rec)))
+
+    -- where nothing is noted, nothing changes
+    pub not-noted : {have n : ℕ} {ps ps' : List ℕ} → Noted (fieldNotes (s ∷ []) a rec) have ps ps' n → n ≡ have
+        → changes (between (s .start) (s .end) rec) ≡ 0
+    unfolding part
+    not-noted noted e =
+        omega (arith, noted .next-is, ap length (append-nil (textNotes (a + s .start) (part s rec))), changes-noted (a + s .start) (between (s .start) (s .end) rec))
+
 module _ (page : ℕ) (rec : List ℕ) where
   pub none-replaced : rec ≡ fwd (rep page) (lies []) 0 rec
   none-replaced = sym (fwd-never (rep page) 0 rec)
 
-  pub q-replaced : {s : Span} (ys : List ℕ) → s ≡ qText 1 → length rec ≡ 256 → ys ≡ text page (between (s .start) (s .end) rec)
-      → backAs (s .start) (s .end) ys rec ≡ fwd (rep page) (lies qTexts) 0 rec
-  q-replaced {s} ys at l e =
-      let i = q-in at rec l in
-      field-more page [] s rec rec ys (i .0) (i .1) none-replaced e ∙ ap (λ (s : Span). fwd (rep page) (lies (s ∷ [])) 0 rec) at
+  -- the fields of T below k, and field k
+  pub t-replaced : (k : ℕ) {s : Span} → 2 ≤ k → k < 10 → s ≡ tText k
+      → fwd (rep page) (lies (textsBelow k ++ (s ∷ []))) 0 rec ≡ fwd (rep page) (lies (textsBelow (k + 1))) 0 rec
+  t-replaced k low high at =
+      ap (λ (ss : List Span). fwd (rep page) (lies ss) 0 rec) (ap (λ (s : Span). textsBelow k ++ (s ∷ [])) at ∙ sym (texts-more k low high))
 
-  pub t-replaced : {k : ℕ} {s : Span} {xs : List ℕ} (ys : List ℕ) → 2 ≤ k → k < 10 → s ≡ tText k → length rec ≡ 768
-      → xs ≡ fwd (rep page) (lies (textsBelow k)) 0 rec → ys ≡ text page (between (s .start) (s .end) xs)
-      → backAs (s .start) (s .end) ys xs ≡ fwd (rep page) (lies (textsBelow (k + 1))) 0 rec
-  t-replaced {k} {s} {xs} ys low high at l so-far e =
-      let same : length xs ≡ 768 = ap length so-far ∙ fwd-length (rep page) (lies (textsBelow k)) 0 rec ∙ l in
-      let i = t-in k low high at xs same in
-      field-more page (textsBelow k) s rec xs ys (i .0) (i .1) so-far e
-      ∙ ap (λ (ss : List Span). fwd (rep page) (lies ss) 0 rec) (ap (λ (s : Span). textsBelow k ++ (s ∷ [])) at ∙ sym (texts-more k low high))
-
--- what a copy into a part of the same length leaves, and what the fields replaced in it then make
+-- what a copy into a part of the same length leaves
 module _ (s part : List ℕ) {d : List ℕ} (l : length part ≡ length s) (e : d ≡ take (length s) s ++ drop (length s) part) where
   pub copied : d ≡ s
   copied = e ∙ ap₂ _++_ (take-length s) (over part (length s) (omega arith)) ∙ append-nil s
-
-  pub copied-replaced : (page : ℕ) (ss : List Span) {f : List ℕ} → f ≡ fwd (rep page) (lies ss) 0 d → f ≡ fwd (rep page) (lies ss) 0 s
-  copied-replaced page ss r = r ∙ ap (fwd (rep page) (lies ss) 0) copied
 
 -- the T records before place `at` are placed
 pub record Placed (page : ℕ) (file out out' : List ℕ) (at : ℕ) : Type 0 where

@@ -1,90 +1,123 @@
-// The forwarded file into the output, record by record: a record's bytes are copied to their place, and each text field is
-// then replaced within its own stretch.
+// The forwarded file into the output, with its notes, record by record. A record's bytes are copied to their place; then each
+// text field is noted, and where it has a note, replaced within its own stretch. So a field without change is looked at once.
 use records::Q;
+use records::Span;
 use records::T;
 use records::Z;
 ghost use mathlib.Core.Path.{_≡_};
-ghost use Prim.Native.Nat.{_-_, _≤_};
+ghost use mathlib.Core.List.{List, [], _∷_, _++_};
+ghost use Prim.Native.Nat.{_+_, _-_, _≤_};
 ghost use lib.ListN.{length};
-ghost use Rattle.charset.specs.Table.{rep, text};
+ghost use Rattle.charset.specs.Table.{rep};
+ghost use Rattle.records.specs.declared.Span.{Span};
 ghost use Rattle.forwarding.specs.Text.{lies, qTexts, tTexts};
-ghost use Rattle.forwarding.specs.Forwarded.{fwd, forwarded};
+ghost use Rattle.forwarding.specs.Forwarded.{fwd, forwarded, notesOf};
 ghost use Rattle.forwarding.specs.Put.{put};
-ghost use Rattle.forwarding.specs.Pieces.{sentIn};
+ghost use Rattle.forwarding.specs.Fields.{fieldNotes};
+ghost use Rattle.forwarding.specs.Noted.{Noted};
+ghost use Rattle.forwarding.specs.Pieces.{sentIn, notedIn};
 ghost use Rattle.forwarding.specs.Sized.{Sized, zAt};
 
-// A text field in its stretch of the output. Few have anything to replace.
-fn stretch(page: u32, field: &mut [u8])
-    ensures { λ _. ⌜ now (field .exit) ≡ text page (now (field .entry)) ⌝ }
+// A text field of a record that stands at a place of the file, in its stretch of the part; whichever fields were replaced there
+// before. Few have a note.
+fn field(
+    page: u32,
+    rec: &[u8],
+    text: Span,
+    part: &mut [u8],
+    at: usize,
+    notes: &mut [u32],
+    have: usize,
+) -> usize
+    requires { ⌜ (text .start ≤ text .end) × (text .end + 15 ≤ length (now rec)) × (length (now part) ≡ length (now rec)) × (at + length (now rec) ≤ 7679744) × (have + length (fieldNotes (text ∷ []) at (now rec)) ≤ length (now notes)) ⌝ }
+    ensures output { λ _. ⌜ ((ss : List Span) → now (part .entry) ≡ fwd (rep page) (lies ss) 0 (now (rec .entry)) → now (part .exit) ≡ fwd (rep page) (lies (ss ++ (text ∷ []))) 0 (now (rec .entry))) ⌝ }
+    ensures noted { λ r. ⌜ Noted (fieldNotes (text ∷ []) at (now (rec .entry))) have (now (notes .entry)) (now (notes .exit)) r ⌝ }
 {
-    if count::none(field) {
-        return;
+    let start = text.start;
+    let end = text.end;
+    let n = note::field(&rec[start..], end - start, at + start, notes, have);
+    if n == have {
+        return n;
     }
-    charset::replace(page, field);
+    charset::replace(page, &mut part[start..end]);
+    n
 }
 
-fn replace_q(page: u32, rec: &mut [u8])
-    requires { ⌜ length (now rec) ≡ 256 ⌝ }
-    ensures { λ _. ⌜ now (rec .exit) ≡ fwd (rep page) (lies qTexts) 0 (now (rec .entry)) ⌝ }
+// A record into its part of the output, and its notes.
+pub fn q_record(page: u32, rec: &[u8], part: &mut [u8], notes: &mut [u32]) -> usize
+    requires { ⌜ (length (now rec) ≡ 256) × (length (now part) ≡ 256) × (length (fieldNotes qTexts 0 (now rec)) ≤ length (now notes)) ⌝ }
+    ensures output { λ _. ⌜ now (part .exit) ≡ fwd (rep page) (lies qTexts) 0 (now (rec .entry)) ⌝ }
+    ensures noted { λ r. ⌜ Noted (fieldNotes qTexts 0 (now (rec .entry))) 0 (now (notes .entry)) (now (notes .exit)) r ⌝ }
 {
-    let field = Q::text(1);
-    let start = field.start;
-    let end = field.end;
-    stretch(page, &mut rec[start..end]);
+    bytes::copy(rec, part);
+    field(page, rec, Q::text(1), part, 0, notes, 0)
 }
 
-fn replace_t(page: u32, rec: &mut [u8])
-    requires { ⌜ length (now rec) ≡ 768 ⌝ }
-    ensures { λ _. ⌜ now (rec .exit) ≡ fwd (rep page) (lies tTexts) 0 (now (rec .entry)) ⌝ }
+// The text fields of a T record whose bytes the part has.
+fn t_fields(
+    page: u32,
+    rec: &[u8],
+    part: &mut [u8],
+    at: usize,
+    notes: &mut [u32],
+    have: usize,
+) -> usize
+    requires { ⌜ (length (now rec) ≡ 768) × (now part ≡ now rec) × (at + 768 ≤ 7679744) × (have + length (fieldNotes tTexts at (now rec)) ≤ length (now notes)) ⌝ }
+    ensures output { λ _. ⌜ now (part .exit) ≡ fwd (rep page) (lies tTexts) 0 (now (rec .entry)) ⌝ }
+    ensures noted { λ r. ⌜ Noted (fieldNotes tTexts at (now (rec .entry))) have (now (notes .entry)) (now (notes .exit)) r ⌝ }
 {
+    let mut n = have;
     let mut k = 2;
     while k < 10 {
-        let field = T::text(k);
-        let start = field.start;
-        let end = field.end;
-        stretch(page, &mut rec[start..end]);
+        n = field(page, rec, T::text(k), part, at, notes, n);
         k += 1;
     }
+    n
 }
 
-// A record into its part of the output.
-pub fn q_record(page: u32, rec: &[u8], part: &mut [u8])
-    requires { ⌜ (length (now rec) ≡ 256) × (length (now part) ≡ 256) ⌝ }
-    ensures { λ _. ⌜ now (part .exit) ≡ fwd (rep page) (lies qTexts) 0 (now (rec .entry)) ⌝ }
+pub fn t_record(
+    page: u32,
+    rec: &[u8],
+    part: &mut [u8],
+    at: usize,
+    notes: &mut [u32],
+    have: usize,
+) -> usize
+    requires { ⌜ (length (now rec) ≡ 768) × (length (now part) ≡ 768) × (at + 768 ≤ 7679744) × (have + length (fieldNotes tTexts at (now rec)) ≤ length (now notes)) ⌝ }
+    ensures output { λ _. ⌜ now (part .exit) ≡ fwd (rep page) (lies tTexts) 0 (now (rec .entry)) ⌝ }
+    ensures noted { λ r. ⌜ Noted (fieldNotes tTexts at (now (rec .entry))) have (now (notes .entry)) (now (notes .exit)) r ⌝ }
 {
     bytes::copy(rec, part);
-    replace_q(page, part);
+    t_fields(page, rec, part, at, notes, have)
 }
 
-pub fn t_record(page: u32, rec: &[u8], part: &mut [u8])
-    requires { ⌜ (length (now rec) ≡ 768) × (length (now part) ≡ 768) ⌝ }
-    ensures { λ _. ⌜ now (part .exit) ≡ fwd (rep page) (lies tTexts) 0 (now (rec .entry)) ⌝ }
-{
-    bytes::copy(rec, part);
-    replace_t(page, part);
-}
-
-// The T records, each at its own place.
-fn payments(page: u32, file: &[u8], out: &mut [u8])
-    requires { ⌜ Sized (now file) × (length (now file) ≤ length (now out)) ⌝ }
-    ensures { λ _. ⌜ now (out .exit) ≡ put 256 (sentIn page 256 (zAt (now (file .entry))) (now (file .entry))) (now (out .entry)) ⌝ }
+// The T records, each at its own place, with their notes behind those that the places have.
+fn payments(page: u32, file: &[u8], out: &mut [u8], notes: &mut [u32], have: usize) -> usize
+    requires { ⌜ Sized (now file) × (length (now file) ≤ length (now out)) × (have + length (notedIn 0 256 (zAt (now file)) (now file)) ≤ length (now notes)) ⌝ }
+    ensures output { λ _. ⌜ now (out .exit) ≡ put 256 (sentIn page 256 (zAt (now (file .entry))) (now (file .entry))) (now (out .entry)) ⌝ }
+    ensures noted { λ r. ⌜ Noted (notedIn 0 256 (zAt (now (file .entry))) (now (file .entry))) have (now (notes .entry)) (now (notes .exit)) r ⌝ }
 {
     let end = file.len() - Z::LENGTH;
+    let mut n = have;
     let mut at = Q::LENGTH;
     while at < end {
         let next = at + T::LENGTH;
-        t_record(page, &file[at..next], &mut out[at..next]);
+        n = t_record(page, &file[at..next], &mut out[at..next], at, notes, n);
         at = next;
     }
+    n
 }
 
-pub fn file(page: u32, file: &[u8], out: &mut [u8])
-    requires { ⌜ Sized (now file) × (length (now file) ≤ length (now out)) ⌝ }
-    ensures { λ _. ⌜ now (out .exit) ≡ put 0 (forwarded page (now (file .entry))) (now (out .entry)) ⌝ }
+// A file for which there is room, and how many notes there are.
+pub fn file(page: u32, file: &[u8], out: &mut [u8], notes: &mut [u32]) -> usize
+    requires { ⌜ Sized (now file) × (length (now file) ≤ length (now out)) × (length (notesOf page (now file)) ≤ length (now notes)) ⌝ }
+    ensures output { λ _. ⌜ now (out .exit) ≡ put 0 (forwarded page (now (file .entry))) (now (out .entry)) ⌝ }
+    ensures noted { λ r. ⌜ Noted (notesOf page (now (file .entry))) 0 (now (notes .entry)) (now (notes .exit)) r ⌝ }
 {
     let all = file.len();
     let end = all - Z::LENGTH;
-    q_record(page, &file[0..Q::LENGTH], &mut out[0..Q::LENGTH]);
-    payments(page, file, out);
+    let have = q_record(page, &file[0..Q::LENGTH], &mut out[0..Q::LENGTH], notes);
+    let n = payments(page, file, out, notes, have);
     bytes::copy(&file[end..all], &mut out[end..all]);
+    n
 }

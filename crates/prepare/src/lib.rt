@@ -31,17 +31,8 @@ fn refusal(number: usize, rec: usize) -> Prepared
     }
 }
 
-// Output and notes of a file for which there is room, and how many notes there are.
-fn forward(page: u32, file: &[u8], out: &mut [u8], notes: &mut [u32]) -> usize
-    requires { ⌜ Sized (now file) × (length (now file) ≤ length (now out)) × (length (notesOf page (now file)) ≤ length (now notes)) ⌝ }
-    ensures output { λ _. ⌜ now (out .exit) ≡ put 0 (forwarded page (now (file .entry))) (now (out .entry)) ⌝ }
-    ensures noted { λ r. ⌜ Noted (notesOf page (now (file .entry))) 0 (now (notes .entry)) (now (notes .exit)) r ⌝ }
-{
-    place::file(page, file, out);
-    note::file(file, notes)
-}
-
-// The same, of a file with so many changes. Where there are none, it goes on as it is.
+// Output and notes of a file with so many changes, for which there is room, and how many notes there are. Where there are none,
+// it goes on as it is.
 fn write(page: u32, file: &[u8], changes: usize, out: &mut [u8], notes: &mut [u32]) -> usize
     requires { ⌜ Sized (now file) × (length (now file) ≤ length (now out)) × (changes ≡ length (notesOf page (now file))) × (changes ≤ length (now notes)) ⌝ }
     ensures output { λ _. ⌜ now (out .exit) ≡ put 0 (forwarded page (now (file .entry))) (now (out .entry)) ⌝ }
@@ -51,7 +42,7 @@ fn write(page: u32, file: &[u8], changes: usize, out: &mut [u8], notes: &mut [u3
         bytes::copy(file, out);
         return 0;
     }
-    forward(page, file, out, notes)
+    place::file(page, file, out, notes)
 }
 
 // The file to send, by its room: nothing is written before both are known.

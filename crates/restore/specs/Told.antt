@@ -4,7 +4,7 @@ use mathlib.Core.Path.{_≡_, refl, sym, ap, _∙_}
 use mathlib.Core.Bool.{Bool, true, false, not, _&&_}
 use mathlib.Core.List.{List, [], _++_}
 use native.Mathlib.Omega.{arith}
-use borrow.Author.Tests.{eq-eqb, ne-eqb}
+use borrow.Author.Tests.{eq-eqb, ne-eqb, not-true, not-false}
 use lib.Dec.{eqb}
 use lib.ListN.{length, take, drop, length-append}
 use lib.Seq.{take-length}
@@ -21,8 +21,8 @@ use Rattle.restore.specs.ByNotes.{notesFit, putNotes, inFile, accepts-by
 use Rattle.restore.specs.Restored.{answer, isYielded, restoreBy, restoreOf, RestoredAs}
 use Rattle.restore.specs.declared.Restored.{Restored}
 
--- whether a sound file yields the pair: v is the verdict, n how many characters are left to replace, fit whether
--- the notes fit
+-- whether a sound file yields the pair: v is the verdict, none whether no character is left to replace, fit whether the notes
+-- fit
 module _ (page : ℕ) (g ns transfer cheque : List ℕ) where
   pair-is : isPair page g ns ≡ isPair page g [] && notesFit (rep page) (textAt (length g)) g 0 ns
   unfolding isPair
@@ -36,19 +36,19 @@ module _ (page : ℕ) (g ns transfer cheque : List ℕ) where
     unfolding isYielded
     by-verdict z = sym (ap (λ (t : Bool). t && isPair page g ns) (ne-eqb _ _ (λ q. z (number-is ∙ q))))
 
-    module _ (z : v .number ≡ 0) {n : ℕ} (left : (p : ℕ) → n ≡ length (notesOf p g)) where
-      yielded-is : {t : Bool} → eqb n 0 ≡ t → t && notesFit (rep page) (textAt (length g)) g 0 ns ≡ isYielded page g ns transfer cheque
+    module _ (z : v .number ≡ 0) {none : Bool} (left : (p : ℕ) → none ≡ eqb (length (notesOf p g)) 0) where
+      yielded-is : {t : Bool} → none ≡ t → t && notesFit (rep page) (textAt (length g)) g 0 ns ≡ isYielded page g ns transfer cheque
       unfolding isYielded
       yielded-is q =
-          let alone = pair-alone page g ∙ ap (λ (m : ℕ). eqb m 0) (sym (left page)) ∙ q in
+          let alone = pair-alone page g ∙ sym (left page) ∙ q in
           ap (λ (t : Bool). t && notesFit (rep page) (textAt (length g)) g 0 ns) (sym alone) ∙ sym pair-is
           ∙ sym (ap (λ (t : Bool). t && isPair page g ns) (eq-eqb _ _ (sym number-is ∙ z)))
 
-      pub by-changes : (n ≡ 0 → ⊥) → false ≡ isYielded page g ns transfer cheque
-      by-changes q = yielded-is (ne-eqb n 0 q)
+      pub by-changes : not none ≡ true → false ≡ isYielded page g ns transfer cheque
+      by-changes q = yielded-is (not-true none q)
 
-      pub by-notes : {fit : Bool} → n ≡ 0 → fit ≡ notesFit (rep page) (textAt (length g)) g 0 ns → fit ≡ isYielded page g ns transfer cheque
-      by-notes q f = f ∙ yielded-is (eq-eqb n 0 q)
+      pub by-notes : {fit : Bool} → not none ≡ false → fit ≡ notesFit (rep page) (textAt (length g)) g 0 ns → fit ≡ isYielded page g ns transfer cheque
+      by-notes q f = f ∙ yielded-is (not-false none q)
 
   -- then the notes are about places of the file, and put back they give the original
   module _ (y : isYielded page g ns transfer cheque ≡ true) where

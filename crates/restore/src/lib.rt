@@ -108,7 +108,7 @@ fn is_yielded(page: u32, forwarded: &[u8], notes: &[u32], transfer: &[u8], chequ
     if number != 0 {
         return false;
     }
-    if count::file(forwarded) != 0 {
+    if !count::nothing(forwarded) {
         return false;
     }
     notes_fit(page, forwarded, notes)

@@ -76,8 +76,7 @@ fn payment(
         };
     }
     let end = at + T::LENGTH;
-    place::t_record(page, rec, &mut out[at..end]);
-    let n = note::t_record(rec, at, notes, have);
+    let n = place::t_record(page, rec, &mut out[at..end], at, notes, have);
     Next {
         at: end,
         notes: n,
@@ -133,8 +132,7 @@ pub fn file(
     ensures { λ _. ⌜ FileSent page (now (file .entry)) (now (transfer .entry)) (now (cheque .entry)) (now (out .entry)) (now (notes .entry)) (now (list .entry)) (now (out .exit)) (now (notes .exit)) (now (list .exit)) ⌝ }
 {
     let q = structure::slot(file, 0);
-    place::q_record(page, q, &mut out[0..Q::LENGTH]);
-    let have = note::q_record(q, notes);
+    let have = place::q_record(page, q, &mut out[0..Q::LENGTH], notes);
     let next = t_records(page, file, n, transfer, cheque, have, out, notes, list);
     let at = next.at;
     let end = at + Z::LENGTH;

@@ -2,22 +2,22 @@
 -- the fresh Z counts and sums the kept records.
 use Prim.Native.Nat.{ℕ, _+_, _≤_, _<_}
 use Prim.Native.Char.{code}
-use mathlib.Core.Path.{_≡_, refl, sym, ap, ap₂, _∙_}
-use mathlib.Core.Bool.{Bool, true, false, not, cond, false≢true}
-use mathlib.Core.List.{List, [], _∷_}
+use mathlib.Core.Path.{_≡_, refl, sym, ap, _∙_}
+use mathlib.Core.Bool.{Bool, true, false, not, cond}
+use mathlib.Core.List.{List, []}
 use mathlib.Core.Logic.{inl, inr}
 use native.Mathlib.Omega.{arith}
 use borrow.Author.Tests.{eqb-true, not-false}
 use lib.Dec.{eqb}
 use lib.ListN.{length, getD}
-use Rattle.laws.specs.Choice.{both, off-eq}
+use Rattle.laws.specs.Choice.{off-eq}
 use Rattle.laws.specs.Scan.{Means, means}
 use Rattle.laws.specs.Sums.{sumOf}
 use Rattle.records.specs.Inside.{part-le}
 use Rattle.records.specs.declared.TField.the-variants.{T3, T4b}
 use Rattle.records.specs.declared.ZField.the-variants.{Z3, Z4}
 use Rattle.fields.specs.Class.{same}
-use Rattle.fields.specs.Laws.{dec-lt}
+use Rattle.fields.specs.Laws.{same-is, dec-lt}
 use Rattle.rules.specs.Faults.{qFault}
 use Rattle.rules.specs.Z.{inZ}
 use Rattle.payments.specs.Rules.{inT, keyOf, keyT3, keyT4b, rule21}
@@ -31,14 +31,6 @@ use Rattle.judge.specs.ByRecords.{Heads, Keeps}
 use Rattle.sorting.specs.Kept.{firstOf, kept, freshZ}
 use Rattle.sorting.specs.Fresh.{ZRight, z-keeps, fresh-long, fresh-letter, fresh-fits, fresh-right}
 use Rattle.sorting.specs.Lists.{sums-add, counts-add, kept-long, kept-from}
-
--- lists that are the same
-same-is : (s t : List ℕ) → same s t ≡ true → s ≡ t
-unfolding same
-same-is [] [] e = refl
-same-is [] (y ∷ t) e = absurd (false≢true e)
-same-is (x ∷ s) [] e = absurd (false≢true e)
-same-is (x ∷ s) (y ∷ t) e = let w = both (eqb x y) (same s t) e in ap₂ _∷_ (eqb-true x y (w .0)) (same-is s t (w .1))
 
 -- a T record that is whole at one place is whole at another
 t-fits : (a b : ℕ) (t : List ℕ) → faultIn a t ≡ 0 → letterOf t ≡ code "T" → 1 ≤ b → faultIn b t ≡ 0

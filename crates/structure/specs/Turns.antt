@@ -2,6 +2,7 @@
 use Prim.Native.Nat.{ℕ, _-_}
 use Prim.Native.Char.{code}
 use mathlib.Core.Path.{_≡_, refl, sym, ap, _∙_}
+use mathlib.Core.Bool.{true}
 use mathlib.Core.List.{List}
 use borrow.Author.Tests.{eq-eqb, ne-eqb}
 use lib.ListN.{getD}
@@ -9,6 +10,7 @@ use Rattle.laws.specs.Choice.{on, off, on-eq, off-eq}
 use Rattle.laws.specs.Scan.{orElse}
 use Rattle.structure.specs.Slots.{slotAt}
 use Rattle.structure.specs.Walk.{letterOf, faultIn, stops, told}
+use Rattle.structure.specs.Whole.{wholeT, t-no-z, t-right}
 use Rattle.structure.specs.Fits.{WalksOn, stays}
 use Rattle.structure.specs.declared.Shape.{Shape}
 use Rattle.structure.specs.declared.Shape.the-variants.{Fits, Refused}
@@ -33,3 +35,7 @@ module _ (file : List ℕ) (k f : ℕ) (rec : List ℕ) (s : rec ≡ slotAt file
       let right = sym fault-is ∙ z in
       let letter = sym (ap letterOf s) ∙ q in
       on {b = stops file k} rest (rw (eq-eqb _ _ right, eq-eqb _ _ letter)) (on-eq _ right refl)
+
+-- a record that is seen to be a whole T is passed
+pub passed-t : (file : List ℕ) (k : ℕ) (rec : List ℕ) → rec ≡ slotAt file k → wholeT k rec ≡ true → WalksOn file k
+passed-t file k rec s e = passed file k (faultIn k rec) rec s refl (t-right k rec e) (t-no-z k rec e)

@@ -2,15 +2,18 @@
 -- ends it.
 use Prim.Native.Nat.{ℕ, _+_, _*_, _-_, _≤_, _<_}
 use Prim.Native.Char.{code}
-use mathlib.Core.Path.{_≡_, refl, sym, ap, _∙_}
+use mathlib.Core.Path.{_≡_, refl, sym, ap, ap₂, _∙_}
 use mathlib.Core.Bool.{Bool, true, false, _&&_, _||_, cond, false≢true}
 use mathlib.Core.List.{List}
 use native.Mathlib.Omega.{arith}
 use borrow.Author.Tests.{ltb-false, leb-true, eqb-true, eqb-false, eq-eqb, ne-eqb, le-ltb}
-use lib.Dec.{eqb, ltb, leb, lit≤}
-use lib.ListN.{length}
-use Rattle.laws.specs.Choice.{on, off, either}
+use lib.Dec.{eqb, ltb, leb, lit<, lit≤}
+use lib.ListN.{length, take, drop}
+use lib.Seq.{getD-take, take-take}
+use Rattle.laws.specs.Ascii.{ascii}
+use Rattle.laws.specs.Choice.{on, off, off-eq, neither, either}
 use Rattle.fields.specs.Class.{same}
+use Rattle.fields.specs.Laws.{same-is}
 use Rattle.structure.specs.Slots.{slotAt, slot-length, later-width}
 use Rattle.structure.specs.Walk.{letterOf, digitsOf, allowed, lengthFor, digitsFor, faultIn}
 
@@ -122,3 +125,39 @@ ends-room file k e z =
     let long : 256 ≤ length (slotAt file k) = omega (arith, w .long, length-low (letterOf (slotAt file k))) in
     let last : length (slotAt file k) ≤ 256 = w .last z in
     (later, omega (arith, rw (later-width k (omega arith)) at (slot-length file k)))
+
+-- a whole T record behind Q, by its length and its first five bytes alone
+abbrev pub wholeT : ℕ → List ℕ → Bool
+wholeT k slot = cond (eqb k 0 || ltb (length slot) 768) false (same (take 5 (drop 0 slot)) (ascii "0768T"))
+
+-- that is enough: the record breaks nothing, and is no Z
+module _ (k : ℕ) (slot : List ℕ) (e : wholeT k slot ≡ true) where
+  t-parts : (1 ≤ k) × (768 ≤ length slot) × (take 5 slot ≡ ascii "0768T")
+  t-parts = go (eqb k 0 || ltb (length slot) 768) refl e
+    where
+      go : (other : Bool) → eqb k 0 || ltb (length slot) 768 ≡ other → cond other false (same (take 5 slot) (ascii "0768T")) ≡ true
+          → (1 ≤ k) × (768 ≤ length slot) × (take 5 slot ≡ ascii "0768T")
+      go true p e = absurd (false≢true e)
+      go false p e =
+          let n = neither (eqb k 0) (ltb (length slot) 768) p in
+          (omega (arith, eqb-false k 0 (n .0)), ltb-false _ _ (n .1), same-is _ _ e)
+
+  t-letter : letterOf slot ≡ code "T"
+  t-letter = sym (getD-take 5 slot 4 0 (lit< tt)) ∙ ap letterOf (t-parts .2)
+
+  pub t-no-z : letterOf slot ≡ code "Z" → ⊥
+  t-no-z z = eqb-false (code "T") (code "Z") refl (sym t-letter ∙ z)
+
+  t-digits : digitsOf slot ≡ ascii "0768"
+  t-digits = sym (take-take 4 5 slot (lit≤ tt)) ∙ ap (take 4) (t-parts .2)
+
+  pub t-right : faultIn k slot ≡ 0
+  unfolding same
+  t-right =
+      no-fault k slot
+      (record {
+        here = ap (allowed k) t-letter ∙ sym (off-eq _ (λ (z : k ≡ 0). omega (arith, t-parts .0)) refl);
+        digits = ap₂ same t-digits (ap digitsFor t-letter);
+        long = omega (arith, length-t _ t-letter, t-parts .1);
+        last = λ z. absurd (t-no-z z);
+      })

@@ -9,6 +9,7 @@ ghost use Rattle.fields.specs.Class.{same};
 ghost use Rattle.records.specs.Places.{recordAt};
 ghost use Rattle.structure.specs.Slots.{widthAt, slotAt};
 ghost use Rattle.structure.specs.Walk.{allowed, lengthFor, digitsOf, digitsFor, faultIn, structureOf};
+ghost use Rattle.structure.specs.Whole.{wholeT};
 
 // A file that fits, with its number of T records; or the number and the record of a refusal.
 pub enum Shape {
@@ -94,6 +95,16 @@ pub fn fault_in(k: usize, slot: &[u8]) -> usize
     0
 }
 
+// A whole T record behind Q: most records are one, and are asked for nothing more.
+fn whole_t(k: usize, slot: &[u8]) -> bool
+    ensures { λ r. ⌜ r ≡ wholeT k (now (slot .entry)) ⌝ }
+{
+    if (k == 0) | (slot.len() < T::LENGTH) {
+        return false;
+    }
+    fields::same(&slot[0..5], b"0768T")
+}
+
 // The walk over the whole file.
 pub fn walk(file: &[u8]) -> Shape
     ensures { λ r. ⌜ r ≡ structureOf (now (file .entry)) ⌝ }
@@ -104,6 +115,10 @@ pub fn walk(file: &[u8]) -> Shape
     let mut k = 0;
     loop {
         let rec = slot(file, k);
+        if whole_t(k, rec) {
+            k += 1;
+            continue;
+        }
         let fault = fault_in(k, rec);
         if fault != 0 {
             return Shape::Refused(fault, k);

@@ -18,7 +18,7 @@ abbrev μ-loop : tie.MeasureT-loop
 
 loop-again : tie.Need-loop-again Inv-loop μ-loop
 loop-again c =
-    (simp length-set (omega arith), rw (c .replaced .ensures) (mapped _ _ _ (c .before .before .loop-test .taken) ∙ c .before .before .before .loop .inv .1))
+    (simp length-set (omega arith), rw (c .straight .ensures) (mapped _ _ _ (c .before .before .loop-test .taken) ∙ c .before .before .before .loop .inv .1))
 
 returns : tie.Need-returns Inv-loop μ-loop
 returns c = sym (mapped-all _ _ _ (c .loop-test .left)) ∙ c .before .loop .inv .1

@@ -21,6 +21,6 @@ rule25-spec =
     (λ c.
     let tests = c .before .before .before in
     on-not _ (tests .before .before .before .before .is-cheque .ensures) (tests .before .before .before .if1 .left)
-    (same-choice _ (c .at3 .ensures) (tests .before .before .blank .ensures)
+    (same-choice _ (c .at3 .ensures) (tests .before .before .left-blank .ensures)
     (same-choice _ (c .before .at2 .ensures) (tests .before .all .ensures)
-    (same-choice _ (c .before .before .at .ensures) (tests .blank2 .ensures) refl)))))
+    (same-choice _ (c .before .before .at .ensures) (tests .left-blank2 .ensures) refl)))))

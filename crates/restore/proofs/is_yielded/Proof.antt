@@ -12,7 +12,7 @@ is-yielded-spec =
     (λ c κs. search needs)
     (λ c. by-verdict _ _ _ _ _ (c .before .examine .ensures) (c .if1 .taken))
     (λ c κs. sound-sized _ _ _ _ (c .before .examine .ensures) (c .if1 .left))
-    (λ c. by-changes _ _ _ _ _ (c .before .before .before .examine .ensures) (c .before .before .if1 .left) (c .before .file .ensures) (c .if2 .taken))
+    (λ c. by-changes _ _ _ _ _ (c .before .before .before .examine .ensures) (c .before .before .if1 .left) (c .before .nothing .ensures) (c .if2 .taken))
     (λ c κs. search needs)
     (λ c.
-    by-notes _ _ _ _ _ (c .before .before .before .before .examine .ensures) (c .before .before .before .if1 .left) (c .before .before .file .ensures) (c .before .if2 .left) (c .notes-fit .ensures)))
+    by-notes _ _ _ _ _ (c .before .before .before .before .examine .ensures) (c .before .before .before .if1 .left) (c .before .before .nothing .ensures) (c .before .if2 .left) (c .notes-fit .ensures)))
