@@ -28,7 +28,7 @@ extern "C" {
 
 /* The version that this header is of. CHANGELOG.md tells what each has changed: where the second number is another one, a host
    is compiled anew. */
-#define DESK_VERSION "4.9.0"
+#define DESK_VERSION "4.9.1"
 
 /* The version that the library is of; it lives as long as the program. A host that loads libdesk.so may compare the two. */
 const char *desk_version(void);

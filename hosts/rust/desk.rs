@@ -12,7 +12,7 @@ use std::io::{self, ErrorKind, Read};
 use std::{error, fmt, ops::Range};
 
 /// The version of this layer, and of the library that it is made for.
-pub const VERSION: &str = "4.9.0";
+pub const VERSION: &str = "4.9.1";
 
 /// The bytes of the longest file that rule 1 lets pass: 9,999 payments.
 pub const MOST_BYTES: u64 = 7_679_744;

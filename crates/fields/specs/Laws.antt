@@ -76,6 +76,12 @@ pub text-turn : (page : ℕ) (c : Class) (s : List ℕ) (i : ℕ) (whole t : Boo
 unfolding allOf
 text-turn page c s i whole t h e q = rw q (rw (next s i 0 h) at e)
 
+-- and of bytes as they stand
+pub bytes-turn : (c : Class) (s : List ℕ) (i : ℕ) (whole t : Bool) → i < length s → allOf c (drop i s) ≡ whole
+    → t ≡ member c (getD s i 0) → t && allOf c (drop (i + 1) s) ≡ whole
+unfolding allOf
+bytes-turn c s i whole t h e q = rw q (rw (next s i 0 h) at e)
+
 -- one character of a text
 pub blank-one : (page : ℕ) (s : List ℕ) (i : ℕ) → i < length s → blank page (take 1 (drop i s)) ≡ eqb (rep page (getD s i 0)) (code " ")
 unfolding blank allOf

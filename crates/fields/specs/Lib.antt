@@ -3,3 +3,4 @@ pub mod Number
 pub mod Bic
 pub mod Lists
 pub mod Laws
+pub mod Shape

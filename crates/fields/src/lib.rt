@@ -8,6 +8,7 @@ ghost use Rattle.charset.specs.Table.{rep, text};
 ghost use Rattle.fields.specs.Class.{member, allOf, blank, same};
 ghost use Rattle.fields.specs.Number.{digitOf, dec, daysOf, isDate};
 ghost use Rattle.fields.specs.Bic.{bicShape};
+ghost use Rattle.fields.specs.Shape.{shapeOf};
 ghost use Rattle.fields.specs.Lists.{isListed, isTaken};
 
 pub enum Class {
@@ -41,6 +42,20 @@ pub fn all(c: Class, s: &[u8]) -> bool
         i += 1;
     }
     ok
+}
+
+// The same, but no byte is read behind the first that is not of the class.
+fn each(c: Class, s: &[u8]) -> bool
+    ensures { λ r. ⌜ r ≡ allOf c (now (s .entry)) ⌝ }
+{
+    let mut i = 0;
+    while i < s.len() {
+        if !belongs(c, s[i]) {
+            return false;
+        }
+        i += 1;
+    }
+    true
 }
 
 // A replaced character is of the class. One that is so as it stands is unchanged, and any other that is unchanged is not of
@@ -157,12 +172,35 @@ pub fn is_date(s: &[u8]) -> bool
     all(Class::Digit, s) & (1 <= month) & (month <= 12) & (1 <= day) & (day <= days(year, month))
 }
 
-// The replaced characters of T8 have the shape of a BIC. What has not mostly says so at its first characters, and nothing
-// behind them is read.
+// The bytes of T8 have the shape of a BIC as they stand.
+fn bic_as_it_stands(t8: &[u8]) -> bool
+    requires { ⌜ length (now t8) ≡ 11 ⌝ }
+    ensures { λ r. ⌜ r ≡ shapeOf (now (t8 .entry)) ⌝ }
+{
+    if !each(Class::Capital, &t8[0..4]) {
+        return false;
+    }
+    if !each(Class::Capital, &t8[4..6]) {
+        return false;
+    }
+    if !each(Class::CapitalOrDigit, &t8[6..8]) {
+        return false;
+    }
+    if each(Class::Space, &t8[8..11]) {
+        return true;
+    }
+    each(Class::CapitalOrDigit, &t8[8..11])
+}
+
+// The replaced characters of T8 have the shape of a BIC. Mostly the bytes themselves have, and then these are the replaced ones;
+// only else the table is asked.
 pub fn bic_shaped(page: u32, t8: &[u8]) -> bool
     requires { ⌜ length (now t8) ≡ 11 ⌝ }
     ensures { λ r. ⌜ r ≡ bicShape page (now (t8 .entry)) ⌝ }
 {
+    if bic_as_it_stands(t8) {
+        return true;
+    }
     if !all_text(page, Class::Capital, &t8[0..4]) {
         return false;
     }

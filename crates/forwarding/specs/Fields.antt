@@ -3,13 +3,14 @@
 use Prim.Native.Nat.{ℕ, _+_, _-_, _≤_, _<_}
 use mathlib.Core.Path.{_≡_, refl, sym, ap, ap₂, _∙_}
 use mathlib.Core.Bool.{Bool, true, false, _&&_, _||_, false≢true}
-use mathlib.Core.List.{List, [], _∷_, _++_, map, append-assoc}
+use mathlib.Core.List.{List, [], _∷_, _++_, map, append-nil, append-assoc}
 use native.Mathlib.Nat.{add-zero}
 use native.Mathlib.Omega.{arith}
 use borrow.Author.Tests.{leb-true, le-leb, lt-leb, lt-ltb, le-ltb}
 use lib.Dec.{leb, ltb, lit≤}
 use lib.ListN.{length, take, drop, length-append, take-append-drop}
 use lib.Seq.{length-take-le, take-at, drop-at}
+use Rattle.laws.specs.Steps.{empty}
 use Rattle.charset.specs.Table.{rep, rep-rep, text}
 use Rattle.records.specs.Places.{part}
 use Rattle.records.specs.Inside.{part-le}
@@ -35,7 +36,7 @@ field-count (s ∷ ss) a rec =
     ap₂ _+_ (changes-noted (a + s .start) (part s rec)) (field-count ss a rec)
     ∙ sym (length-append (textNotes (a + s .start) (part s rec)) (fieldNotes ss a rec))
 
--- no record has more changes than bytes
+-- no record has more changes than characters of text
 abbrev spread : List Span → ℕ
 spread [] = 0
 spread (s ∷ ss) = (s .end - s .start) + spread ss
@@ -44,6 +45,13 @@ few : (ss : List Span) (rec : List ℕ) → fieldChanges ss rec ≤ spread ss
 few [] rec = lit≤ tt
 few (s ∷ ss) rec = omega (arith, few ss rec, changes-few (part s rec), part-le s rec)
 
+pub q-most : (rec : List ℕ) → fieldChanges qTexts rec ≤ 140
+q-most rec = few qTexts rec
+
+pub t-most : (rec : List ℕ) → fieldChanges tTexts rec ≤ 553
+t-most rec = few tTexts rec
+
+-- nor more than bytes
 pub q-few : (rec : List ℕ) → fieldChanges qTexts rec ≤ 768
 q-few rec = omega (arith, few qTexts rec)
 
@@ -220,12 +228,10 @@ field-kept page ss s rec xs h l e none =
     let whole : xs ≡ take a xs ++ (between a z xs ++ drop (z - a) (drop a xs)) = simp take-append-drop in
     whole ∙ field-more page ss s rec xs (between a z xs) h (omega arith) e same
 
--- fields that lie where nothing changes have no change
-pub none-within : (lo hi : ℕ) (ss : List Span) (rec : List ℕ) → rising lo hi ss ≡ true → hi ≤ length rec
-    → changes (between lo hi rec) ≡ 0 → fieldChanges ss rec ≡ 0
-unfolding part
-none-within lo hi [] rec e l none = refl
-none-within lo hi (s ∷ ss) rec e l none =
+-- where nothing changes, a field that lies there has no change, and nor has the rest behind it
+apart : (lo hi : ℕ) (s : Span) (ss : List Span) (rec : List ℕ) → rising lo hi (s ∷ ss) ≡ true → changes (between lo hi rec) ≡ 0
+    → (changes (between (s .start) (s .end) rec) ≡ 0) × (changes (between (s .end) hi rec) ≡ 0)
+apart lo hi s ss rec e none =
     let o = rises s ss e in
     let end = rises-to (s .end) hi ss (o .more) in
     let gap = between lo (s .start) rec in
@@ -236,4 +242,28 @@ none-within lo hi (s ∷ ss) rec e l none =
     ∙ ap (λ (l : List ℕ). gap ++ l) (between-more (s .start) (s .end) rec (o .last) hi end) in
     let sum = ap changes whole ∙ changes-append gap (field ++ rest) in
     let two = changes-append field rest in
-    omega (arith, sum, two, none-within (s .end) hi ss rec (o .more) l (omega (arith, sum, two)))
+    (omega (arith, sum, two), omega (arith, sum, two))
+
+-- so fields that lie where nothing changes have no change
+pub none-within : (lo hi : ℕ) (ss : List Span) (rec : List ℕ) → rising lo hi ss ≡ true → changes (between lo hi rec) ≡ 0
+    → fieldChanges ss rec ≡ 0
+unfolding part
+none-within lo hi [] rec e none = refl
+none-within lo hi (s ∷ ss) rec e none =
+    let both = apart lo hi s ss rec e none in
+    omega (arith, both .0, none-within (s .end) hi ss rec (rises s ss e .more) (both .1))
+
+pub no-notes : (ss : List Span) (a : ℕ) (rec : List ℕ) → fieldChanges ss rec ≡ 0 → fieldNotes ss a rec ≡ []
+no-notes ss a rec e = empty (fieldNotes ss a rec) (sym (field-count ss a rec) ∙ e)
+
+-- and are forwarded as they are, whichever were replaced before
+pub fields-kept : (page : ℕ) (ss us : List Span) (lo hi : ℕ) (rec xs : List ℕ) → rising lo hi us ≡ true → hi ≤ length rec
+    → changes (between lo hi rec) ≡ 0 → xs ≡ fwd (rep page) (lies ss) 0 rec → xs ≡ fwd (rep page) (lies (ss ++ us)) 0 rec
+fields-kept page ss [] lo hi rec xs e l none so-far = so-far ∙ ap (λ (ts : List Span). fwd (rep page) (lies ts) 0 rec) (sym (append-nil ss))
+fields-kept page ss (s ∷ us) lo hi rec xs e l none so-far =
+    let o = rises s us e in
+    let end = rises-to (s .end) hi us (o .more) in
+    let both = apart lo hi s us rec e none in
+    fields-kept page (ss ++ (s ∷ [])) us (s .end) hi rec xs (o .more) l (both .1)
+    (field-kept page ss s rec xs (o .last) (omega arith) so-far (both .0))
+    ∙ ap (λ (ts : List Span). fwd (rep page) (lies ts) 0 rec) (append-assoc ss (s ∷ []) us)

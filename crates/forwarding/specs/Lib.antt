@@ -7,6 +7,7 @@ pub mod Sized
 pub mod Changes
 pub mod Fields
 pub mod Pieces
+pub mod Most
 pub mod Noted
 pub mod Numbered
 pub mod Found

@@ -3,15 +3,14 @@ use Prim.Native.Nat.{ℕ, _+_, _-_, _≤_, _<_}
 use mathlib.Core.Path.{_≡_, sym, ap, _∙_}
 use mathlib.Core.List.{List, [], _∷_, _++_}
 use native.Mathlib.Omega.{arith}
-use lib.ListN.{length, drop, length-append, take-append-drop}
-use Rattle.records.specs.Places.{qText, tText}
+use lib.ListN.{length, length-append}
+use Rattle.records.specs.Places.{qText}
 use Rattle.records.specs.declared.Span.{Span}
 use Rattle.forwarding.specs.Text.{qTexts, tTexts}
 use Rattle.forwarding.specs.Forwarded.{notesOf}
 use Rattle.forwarding.specs.Changes.{notes-page}
 use Rattle.forwarding.specs.Between.{between}
-use Rattle.forwarding.specs.Fields.{fieldNotes, notes-more}
-use Rattle.forwarding.specs.Numbered.{textsBelow, texts-more}
+use Rattle.forwarding.specs.Fields.{fieldNotes}
 use Rattle.forwarding.specs.Noted.{Noted, noted-none, noted-is, noted-length, noted-append}
 use Rattle.forwarding.specs.Pieces.{notedIn, noted-more, q-noted, t-noted, all-noted}
 use Rattle.forwarding.specs.Sized.{zAt, Sized, Begins, fits, begins-first, begins-next, begins-last}
@@ -19,26 +18,6 @@ use Rattle.forwarding.specs.Sized.{zAt, Sized, Begins, fits, begins-first, begi
 module _ (rec : List ℕ) {s : Span} where
   pub q5-notes : s ≡ qText 1 → fieldNotes (s ∷ []) 0 rec ≡ fieldNotes qTexts 0 rec
   q5-notes at = ap (λ (s : Span). fieldNotes (s ∷ []) 0 rec) at
-
-  -- the notes of the fields of T below k, and of field k
-  module _ (k a : ℕ) (low : 2 ≤ k) (high : k < 10) (at : s ≡ tText k) where
-    more : fieldNotes (textsBelow (k + 1)) a rec ≡ fieldNotes (textsBelow k) a rec ++ fieldNotes (s ∷ []) a rec
-    more =
-        ap (λ (ss : List Span). fieldNotes ss a rec) (texts-more k low high)
-        ∙ notes-more (textsBelow k) (tText k ∷ []) a rec
-        ∙ ap (λ (s : Span). fieldNotes (textsBelow k) a rec ++ fieldNotes (s ∷ []) a rec) (sym at)
-
-    pub field-fits : length (fieldNotes (textsBelow k) a rec) + length (fieldNotes (s ∷ []) a rec) ≤ length (fieldNotes tTexts a rec)
-    field-fits =
-        let rest = drop (k + 1 - 2) tTexts in
-        let all : fieldNotes tTexts a rec ≡ fieldNotes (textsBelow (k + 1)) a rec ++ fieldNotes rest a rec =
-        ap (λ (ss : List Span). fieldNotes ss a rec) (sym (take-append-drop (k + 1 - 2) tTexts)) ∙ notes-more (textsBelow (k + 1)) rest a rec in
-        omega (arith, ap length all, length-append (fieldNotes (textsBelow (k + 1)) a rec) (fieldNotes rest a rec), ap length more, length-append (fieldNotes (textsBelow k) a rec) (fieldNotes (s ∷ []) a rec))
-
-    pub field-noted : {have n m : ℕ} {ps ps' ps'' : List ℕ} → have + length (fieldNotes tTexts a rec) ≤ length ps
-        → Noted (fieldNotes (textsBelow k) a rec) have ps ps' n → Noted (fieldNotes (s ∷ []) a rec) n ps' ps'' m
-        → Noted (fieldNotes (textsBelow (k + 1)) a rec) have ps ps'' m
-    field-noted fits u v = noted-is (sym more) (noted-append u v (omega (arith, field-fits)))
 
 -- the notes of the T records before place `at` are put behind the `have` that were there
 pub record NotedTo (file : List ℕ) (have : ℕ) (ps ps' : List ℕ) (n at : ℕ) : Type 0 where

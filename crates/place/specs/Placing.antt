@@ -1,9 +1,11 @@
 -- The turns of placing: a field replaced where it stands, a record at its place.
 use Prim.Native.Nat.{ℕ, _+_, _-_, _≤_, _<_}
-use mathlib.Core.Path.{_≡_, sym, ap, ap₂, _∙_}
-use mathlib.Core.List.{List, [], _∷_, _++_, append-nil}
+use mathlib.Core.Path.{_≡_, refl, sym, ap, ap₂, _∙_}
+use mathlib.Core.Bool.{true}
+use mathlib.Core.List.{List, [], _∷_, _++_, append-nil, append-assoc}
 use native.Mathlib.Omega.{arith}
-use lib.ListN.{length, take, drop, length-drop}
+use lib.Dec.{lit≤}
+use lib.ListN.{length, take, drop, length-append, length-drop}
 use lib.Seq.{take-length, take-all}
 use Rattle.laws.specs.Steps.{over}
 use Rattle.charset.specs.Table.{rep}
@@ -15,9 +17,9 @@ use Rattle.forwarding.specs.Put.{put, put-part}
 use Rattle.forwarding.specs.Parts.{fwd-never, fwd-length}
 use Rattle.forwarding.specs.Between.{between, between-long}
 use Rattle.forwarding.specs.Changes.{textNotes, changes, changes-noted}
-use Rattle.forwarding.specs.Fields.{fieldNotes}
-use Rattle.forwarding.specs.Noted.{Noted, firstNotes}
-use Rattle.forwarding.specs.Numbered.{textsBelow, texts-more}
+use Rattle.forwarding.specs.Fields.{fieldNotes, notes-more, rising}
+use Rattle.forwarding.specs.Noted.{Noted, firstNotes, noted-is, noted-append}
+use Rattle.forwarding.specs.Numbered.{textsBelow, textsFrom, texts-from-more, texts-from-rest}
 use Rattle.forwarding.specs.Pieces.{sentIn, sent-long, q-sent, t-sent}
 use Rattle.forwarding.specs.Sent.{sent-none, sent-same, sent-then, sent-all}
 use Rattle.forwarding.specs.Sized.{zAt, Sized, Begins, fits, begins-first, begins-next, begins-last}
@@ -53,11 +55,49 @@ module _ (page : ℕ) (rec : List ℕ) where
   pub none-replaced : rec ≡ fwd (rep page) (lies []) 0 rec
   none-replaced = sym (fwd-never (rep page) 0 rec)
 
-  -- the fields of T below k, and field k
-  pub t-replaced : (k : ℕ) {s : Span} → 2 ≤ k → k < 10 → s ≡ tText k
-      → fwd (rep page) (lies (textsBelow k ++ (s ∷ []))) 0 rec ≡ fwd (rep page) (lies (textsBelow (k + 1))) 0 rec
-  t-replaced k low high at =
-      ap (λ (ss : List Span). fwd (rep page) (lies ss) 0 rec) (ap (λ (s : Span). textsBelow k ++ (s ∷ [])) at ∙ sym (texts-more k low high))
+-- the text fields of T from number `first` up to below `end` lie in the 320 bytes from place `from` on
+pub record TheseLie (from first end : ℕ) : Type 0 where
+  pub low : 2 ≤ first
+  pub some : first ≤ end
+  pub high : end ≤ 10
+  pub inside : from + 320 ≤ 768
+  pub there : rising from (from + 320) (textsFrom first end) ≡ true
+
+module _ (page : ℕ) (rec : List ℕ) (first k : ℕ) {s : Span} (low : 2 ≤ k) (high : k < 10) (behind : first ≤ k) (at : s ≡ tText k) where
+  one-more : textsFrom first (k + 1) ≡ textsFrom first k ++ (s ∷ [])
+  one-more = texts-from-more k low high first behind ∙ ap (λ (s : Span). textsFrom first k ++ (s ∷ [])) (sym at)
+
+  pub replaced-more : (ss : List Span)
+      → fwd (rep page) (lies (ss ++ textsFrom first k ++ (s ∷ []))) 0 rec ≡ fwd (rep page) (lies (ss ++ textsFrom first (k + 1))) 0 rec
+  replaced-more ss =
+      ap (λ (ts : List Span). fwd (rep page) (lies ts) 0 rec) (append-assoc ss (textsFrom first k) (s ∷ []) ∙ ap (λ (ts : List Span). ss ++ ts) (sym one-more))
+
+  module _ (a : ℕ) where
+    notes-from : fieldNotes (textsFrom first (k + 1)) a rec ≡ fieldNotes (textsFrom first k) a rec ++ fieldNotes (s ∷ []) a rec
+    notes-from = ap (λ (ts : List Span). fieldNotes ts a rec) one-more ∙ notes-more (textsFrom first k) (s ∷ []) a rec
+
+    pub notes-fit : (end : ℕ) → k < end → end ≤ 10
+        → length (fieldNotes (textsFrom first k) a rec) + length (fieldNotes (s ∷ []) a rec) ≤ length (fieldNotes (textsFrom first end) a rec)
+    notes-fit end more most =
+        let rest = drop (k + 1 - 2) (textsBelow end) in
+        let all = ap (λ (ts : List Span). fieldNotes ts a rec) (texts-from-rest first (k + 1) end (omega arith) (omega arith) (omega arith) most) ∙ notes-more (textsFrom first (k + 1)) rest a rec in
+        omega (arith, ap length all, length-append (fieldNotes (textsFrom first (k + 1)) a rec) (fieldNotes rest a rec), ap length notes-from, length-append (fieldNotes (textsFrom first k) a rec) (fieldNotes (s ∷ []) a rec))
+
+    pub noted-from : (end : ℕ) → k < end → end ≤ 10 → {have n m : ℕ} {ps ps' ps'' : List ℕ}
+        → have + length (fieldNotes (textsFrom first end) a rec) ≤ length ps → Noted (fieldNotes (textsFrom first k) a rec) have ps ps' n
+        → Noted (fieldNotes (s ∷ []) a rec) n ps' ps'' m → Noted (fieldNotes (textsFrom first (k + 1)) a rec) have ps ps'' m
+    noted-from end more most room u v =
+        noted-is (sym notes-from) (noted-append u v (omega (arith, notes-fit end more most)))
+
+-- T8 to T10b lie so, and T12 to T24; and these are all
+pub t8-on : TheseLie 53 2 5
+t8-on = record { low = lit≤ tt; some = lit≤ tt; high = lit≤ tt; inside = lit≤ tt; there = refl }
+
+pub t12-on : TheseLie 420 5 10
+t12-on = record { low = lit≤ tt; some = lit≤ tt; high = lit≤ tt; inside = lit≤ tt; there = refl }
+
+pub both-notes : (a : ℕ) (rec : List ℕ) → fieldNotes tTexts a rec ≡ fieldNotes (textsFrom 2 5) a rec ++ fieldNotes (textsFrom 5 10) a rec
+both-notes a rec = notes-more (textsFrom 2 5) (textsFrom 5 10) a rec
 
 -- what a copy into a part of the same length leaves
 module _ (s part : List ℕ) {d : List ℕ} (l : length part ≡ length s) (e : d ≡ take (length s) s ++ drop (length s) part) where

@@ -14,9 +14,11 @@ ghost use Rattle.forwarding.specs.Text.{lies, qTexts, tTexts};
 ghost use Rattle.forwarding.specs.Forwarded.{fwd, forwarded, notesOf};
 ghost use Rattle.forwarding.specs.Put.{put};
 ghost use Rattle.forwarding.specs.Fields.{fieldNotes};
+ghost use Rattle.forwarding.specs.Numbered.{textsFrom};
 ghost use Rattle.forwarding.specs.Noted.{Noted};
 ghost use Rattle.forwarding.specs.Pieces.{sentIn, notedIn};
 ghost use Rattle.forwarding.specs.Sized.{Sized, zAt};
+ghost use Rattle.place.specs.Placing.{TheseLie};
 
 // A text field of a record that stands at a place of the file, in its stretch of the part; whichever fields were replaced there
 // before. Few have a note.
@@ -53,7 +55,36 @@ pub fn q_record(page: u32, rec: &[u8], part: &mut [u8], notes: &mut [u32]) -> us
     field(page, rec, Q::text(1), part, 0, notes, 0)
 }
 
-// The text fields of a T record whose bytes the part has.
+// The text fields from one number up to below another, which lie in the 320 bytes from a place of the record on. Where none of
+// these changes, no field has to be asked by itself.
+fn some_fields(
+    page: u32,
+    rec: &[u8],
+    from: usize,
+    first: usize,
+    end: usize,
+    part: &mut [u8],
+    at: usize,
+    notes: &mut [u32],
+    have: usize,
+) -> usize
+    requires { ⌜ (length (now rec) ≡ 768) × (length (now part) ≡ 768) × (at + 768 ≤ 7679744) × TheseLie from first end × (have + length (fieldNotes (textsFrom first end) at (now rec)) ≤ length (now notes)) ⌝ }
+    ensures output { λ _. ⌜ ((ss : List Span) → now (part .entry) ≡ fwd (rep page) (lies ss) 0 (now (rec .entry)) → now (part .exit) ≡ fwd (rep page) (lies (ss ++ textsFrom first end)) 0 (now (rec .entry))) ⌝ }
+    ensures noted { λ r. ⌜ Noted (fieldNotes (textsFrom first end) at (now (rec .entry))) have (now (notes .entry)) (now (notes .exit)) r ⌝ }
+{
+    if count::none(&rec[from..from + 320]) {
+        return have;
+    }
+    let mut n = have;
+    let mut k = first;
+    while k < end {
+        n = field(page, rec, T::text(k), part, at, notes, n);
+        k += 1;
+    }
+    n
+}
+
+// The text fields of a T record whose bytes the part has: T8 to T10b, and T12 to T24.
 fn t_fields(
     page: u32,
     rec: &[u8],
@@ -66,13 +97,8 @@ fn t_fields(
     ensures output { λ _. ⌜ now (part .exit) ≡ fwd (rep page) (lies tTexts) 0 (now (rec .entry)) ⌝ }
     ensures noted { λ r. ⌜ Noted (fieldNotes tTexts at (now (rec .entry))) have (now (notes .entry)) (now (notes .exit)) r ⌝ }
 {
-    let mut n = have;
-    let mut k = 2;
-    while k < 10 {
-        n = field(page, rec, T::text(k), part, at, notes, n);
-        k += 1;
-    }
-    n
+    let n = some_fields(page, rec, 53, 2, 5, part, at, notes, have);
+    some_fields(page, rec, 420, 5, 10, part, at, notes, n)
 }
 
 pub fn t_record(

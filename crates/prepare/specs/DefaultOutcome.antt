@@ -2,25 +2,22 @@
 use Prim.Native.Nat.{ℕ, _+_, _*_, _≤_}
 use mathlib.Core.Path.{_≡_, refl, sym, ap, ap₂, _∙_}
 use mathlib.Core.Bool.{Bool, true, false, cond}
-use mathlib.Core.List.{List, []}
+use mathlib.Core.List.{List}
 use native.Mathlib.Omega.{arith}
 use borrow.Author.Tests.{ltb-false}
 use lib.Dec.{eqb, ltb}
 use lib.ListN.{length}
 use Rattle.laws.specs.Choice.{on-eq, off-eq}
-use Rattle.laws.specs.Steps.{empty}
 use Rattle.forwarding.specs.Forwarded.{forwarded, notesOf}
-use Rattle.forwarding.specs.Put.{put, put-none}
-use Rattle.forwarding.specs.Noted.{Noted}
-use Rattle.forwarding.specs.Sized.{Sized}
+use Rattle.forwarding.specs.Put.{put}
 use Rattle.judge.specs.ByRecords.{file-length}
 use Rattle.structure.specs.Slots.{slotAt}
 use Rattle.structure.specs.declared.Shape.the-variants.{Fits}
 use Rattle.sorting.specs.Kept.{tRecords, ruleIn, keptIn, returnedIn, namedIn, keptFile}
 use Rattle.sorting.specs.Sorted.{unsorted, goesOn, sortOf}
 use Rattle.sorting.specs.Lists.{counts-add, named-count}
-use Rattle.sorting.specs.Frame.{fit, records-count, zOf, kept-lengths, kept-few}
-use Rattle.sorting.specs.Goes.{GoesOn, goes, kept-whole-file}
+use Rattle.sorting.specs.Frame.{records-count, zOf, kept-lengths, kept-few}
+use Rattle.sorting.specs.Goes.{GoesOn, goes}
 use Rattle.sorting.specs.declared.Sorted.{Sorted}
 use Rattle.sending.specs.Whole.{CanSend, FileSent}
 use Rattle.prepare.specs.Prepared.{notPrepared, done, sendOf}
@@ -128,26 +125,6 @@ module _ (page : ℕ) (file transfer cheque out notes list : List ℕ) {s : Sort
             → list' ≡ put 0 (namedIn page file transfer cheque) list → DefaultAs page file transfer cheque out notes list s out' notes' list'
         writes p q r = record { answer-is = answered; out-is = on-eq _ z p; notes-are = on-eq _ z q; list-is = on-eq _ z r }
 
-        -- nothing is returned: the file goes on whole
-        module _ (none : s .payments .returned ≡ 0) where
-          same : K ≡ file
-          same = kept-whole-file page file transfer cheque n g (sym returned-is ∙ none)
-
-          pub whole-can : Sized file × (length file ≤ length out) × (s .notes ≡ length (notesOf page file)) × (s .notes ≤ length notes)
-          whole-can =
-              let f = fit file n (g .fits) in
-              let k = notes-is ∙ ap (λ (f : List ℕ). length (notesOf page f)) same in
-              (record { payments = n; long = f .long; most = f .most }, omega (arith, all-there .0, ap length same), k, omega (arith, notes-is, all-there .1))
-
-          pub default-whole : {m : ℕ} {out' notes' : List ℕ} → out' ≡ put 0 (forwarded page file) out → Noted (notesOf page file) 0 notes notes' m
-              → DefaultAs page file transfer cheque out notes list s out' notes' list
-          default-whole p q =
-              let nobody : namedIn page file transfer cheque ≡ [] =
-              empty (namedIn page file transfer cheque) (named-count (ruleIn page file transfer cheque) 1 (tRecords file) ∙ sym returned-is ∙ none) in
-              writes (p ∙ ap (λ (f : List ℕ). put 0 (forwarded page f) out) (sym same)) (q .places-are ∙ ap (λ (f : List ℕ). put 0 (notesOf page f) notes) (sym same))
-              (sym (put-none 0 list) ∙ ap (λ (l : List ℕ). put 0 l list) (sym nobody))
-
-        -- some are
         pub can-send : CanSend page file (s .payments .kept + s .payments .returned) transfer cheque (s .payments .kept) (s .euros .kept) out notes list
         can-send =
             let all : s .payments .kept + s .payments .returned ≡ n = omega (arith, kept-is, returned-is, counts-add (ruleIn page file transfer cheque) (tRecords file), records-count file n (g .fits)) in

@@ -1,5 +1,5 @@
 -- The promise by what the code found: a refusal, which writes nothing, or success.
-use Prim.Native.Nat.{ℕ, _+_, _≤_, _<_}
+use Prim.Native.Nat.{ℕ, _+_, _-_, _/_, _≤_, _<_}
 use mathlib.Core.Path.{_≡_, refl, sym, ap, _∙_}
 use mathlib.Core.Bool.{Bool, true, false, not}
 use mathlib.Core.List.{List, _++_}
@@ -15,10 +15,18 @@ use Rattle.judge.specs.declared.Verdict.{Verdict}
 use Rattle.forwarding.specs.Forwarded.{forwarded, notesOf}
 use Rattle.forwarding.specs.Put.{put}
 use Rattle.forwarding.specs.Changes.{as-it-is}
+use Rattle.forwarding.specs.Most.{textLength, notes-most}
 use Rattle.forwarding.specs.Noted.{Noted, noted-none, noted-is}
 use Rattle.forwarding.specs.Sized.{Sized}
 use Rattle.prepare.specs.Prepared.{notPrepared, done, sendOf, prepareBy, prepareOf, outputAfter, notesAfter, SentAs, PreparedAs}
 use Rattle.prepare.specs.declared.Prepared.{Prepared}
+
+-- where there is a place for each character of text, there is one for each note
+pub enough-places : (page : ℕ) (file notes : List ℕ) {places : ℕ} → Sized file → places ≡ textLength ((length file - 512) / 768)
+    → places ≤ length notes → length (notesOf page file) ≤ length notes
+enough-places page file notes s e h =
+    let n : (length file - 512) / 768 ≡ s .payments = omega (arith, s .long) in
+    omega (arith, e, ap textLength n, notes-most page file (s .payments) (s .long))
 
 -- where nothing changes, the file as it is is the forwarded one, and it has no notes
 module _ (page : ℕ) (file out notes : List ℕ) (none : length (notesOf page file) ≡ 0) where

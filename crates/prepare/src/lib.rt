@@ -1,17 +1,20 @@
 // Prepare a file for forwarding: the forwarded file into the output, and a note of each changed character. The strict way
 // takes a sound file whole; the default way sends the payments that break no rule, and names the others.
+use judge::Verdict;
 use sorting::Sorted;
 ghost use mathlib.Core.Path.{_≡_};
-ghost use Prim.Native.Nat.{_+_, _≤_};
+ghost use Prim.Native.Nat.{_+_, _-_, _/_, _≤_};
 ghost use lib.ListN.{length};
 ghost use Rattle.forwarding.specs.Forwarded.{forwarded, notesOf};
 ghost use Rattle.forwarding.specs.Put.{put};
+ghost use Rattle.forwarding.specs.Most.{textLength};
 ghost use Rattle.forwarding.specs.Noted.{Noted};
 ghost use Rattle.forwarding.specs.Sized.{Sized};
 ghost use Rattle.prepare.specs.Prepared.{notPrepared, SentAs, PreparedAs};
 ghost use Rattle.sending.specs.Whole.{CanSend, FileSent};
 ghost use Rattle.prepare.specs.Default.{DefaultAs};
 ghost use Rattle.prepare.specs.DefaultOutcome.{roomMissing};
+ghost use Rattle.prepare.specs.SoundOutcome.{wholeBy};
 
 // Number 0, record 0 and how many notes there are; or the number of a refusal, its record, and 0.
 #[repr(C)]
@@ -45,13 +48,30 @@ fn write(page: u32, file: &[u8], changes: usize, out: &mut [u8], notes: &mut [u3
     place::file(page, file, out, notes)
 }
 
-// The file to send, by its room: nothing is written before both are known.
+// The note places that suffice for any file of so many bytes: one for each character of text, 140 in Q and 553 in a T record.
+fn enough(bytes: usize) -> usize
+    requires { ⌜ (512 ≤ bytes) × (bytes ≤ 7679744) ⌝ }
+    ensures { λ r. ⌜ r ≡ textLength ((bytes - 512) / 768) ⌝ }
+{
+    140 + 553 * ((bytes - 512) / 768)
+}
+
+// The file to send, by its room: nothing is written before both are known. Where there are places enough for every character of
+// text, 61 cannot come, and the changes need not be counted first.
 fn send(page: u32, file: &[u8], out: &mut [u8], notes: &mut [u32]) -> Prepared
     requires { ⌜ Sized (now file) ⌝ }
     ensures { λ r. ⌜ SentAs page (now (file .entry)) (now (out .entry)) (now (notes .entry)) r (now (out .exit)) (now (notes .exit)) ⌝ }
 {
     if out.len() < file.len() {
         return refusal(60, 0);
+    }
+    if enough(file.len()) <= notes.len() {
+        let all = place::file(page, file, out, notes);
+        return Prepared {
+            number: 0,
+            rec: 0,
+            notes: all,
+        };
     }
     let changes = count::file(file);
     if notes.len() < changes {
@@ -130,9 +150,8 @@ fn send_kept(
     sending::file(page, file, n, transfer, cheque, kept, sum, out, notes, list);
 }
 
-// The default way. Sorting's refusals, then 60, 61 and 63; then the payments that are kept go on, and the others are named.
-// A file with nothing to return goes on whole.
-pub fn prepare(
+// Sorting's refusals, then 60, 61 and 63; then the payments that are kept go on, and the others are named.
+fn sort_and_send(
     page: u32,
     file: &[u8],
     transfer: &[u8],
@@ -152,11 +171,42 @@ pub fn prepare(
     if short != 0 {
         return sorting::refusal(short, 0);
     }
-    let payments = sorted.payments;
-    if payments.returned == 0 {
-        write(page, file, sorted.notes, out, notes);
-        return sorted;
-    }
     send_kept(page, file, sorted, transfer, cheque, out, notes, list);
     sorted
+}
+
+// The answer of a sound file, by what sending it answered: all of it goes on, or nothing.
+fn whole(verdict: Verdict, sent: Prepared) -> Sorted
+    ensures { λ r. ⌜ r ≡ wholeBy verdict sent ⌝ }
+{
+    let number = sent.number;
+    if number != 0 {
+        return sorting::refusal(number, sent.rec);
+    }
+    sorting::whole(verdict.payments, verdict.euros, sent.notes)
+}
+
+// The default way. A sound file has nothing to return and goes on whole, as the strict way sends it; any other is sorted.
+pub fn prepare(
+    page: u32,
+    file: &[u8],
+    transfer: &[u8],
+    cheque: &[u8],
+    out: &mut [u8],
+    notes: &mut [u32],
+    list: &mut [u32],
+) -> Sorted
+    ensures { λ r. ⌜ DefaultAs page (now (file .entry)) (now (transfer .entry)) (now (cheque .entry)) (now (out .entry)) (now (notes .entry)) (now (list .entry)) r (now (out .exit)) (now (notes .exit)) (now (list .exit)) ⌝ }
+{
+    let exists = charset::is_page(page);
+    if !exists {
+        return sorting::refusal(7, 0);
+    }
+    let verdict = judge::examine(page, file, transfer, cheque);
+    let broken = verdict.number;
+    if broken != 0 {
+        return sort_and_send(page, file, transfer, cheque, out, notes, list);
+    }
+    let sent = send(page, file, out, notes);
+    whole(verdict, sent)
 }

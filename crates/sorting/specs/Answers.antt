@@ -20,8 +20,11 @@ use Rattle.judge.specs.First.{firstRule}
 use Rattle.judge.specs.Content.{faultOf, ruleFrom, ruleEnd, contentOf, rule-real}
 use Rattle.judge.specs.Meaning.{none-broken}
 use Rattle.judge.specs.Run.{runFault, Lies, firstIn, file-lies, fault-in-file}
-use Rattle.judge.specs.Sums.{euros, euroSum}
+use Rattle.judge.specs.Sums.{euros, euroSum, centSum}
+use Rattle.judge.specs.Verdict.{refused, sound, verdictOf}
+use Rattle.judge.specs.Told.{sound-fits, told-fits}
 use Rattle.judge.specs.declared.Breach.{Breach}
+use Rattle.judge.specs.declared.Verdict.{Verdict}
 use Rattle.forwarding.specs.Forwarded.{notesOf}
 use Rattle.sorting.specs.Kept.{tRecords, ruleIn, keptIn, returnedIn, keptFile}
 use Rattle.sorting.specs.Sorted.{shares, sortedAs, unsorted, goesOn, noAmount, ruleAt, refusing, behindQ, sortBy, sortOf}
@@ -160,3 +163,22 @@ module _ (page : ℕ) (file transfer cheque : List ℕ) {there : Bool} (known : 
   pub told-shape : {r : Sorted} (shape : Shape) → not there ≡ false → structureOf file ≡ shape → r ≡ sortBy shape page file transfer cheque → r ≡ sortOf page file transfer cheque
   unfolding sortOf
   told-shape shape t w h = on-not _ known t (h ∙ ap (λ (s : Shape). sortBy s page file transfer cheque) (sym w))
+
+  -- a sound file goes on whole, with the verdict's figures
+  pub told-sound : {v : Verdict} {r : Sorted} {changes : ℕ} → not there ≡ false → v ≡ verdictOf page file transfer cheque → v .number ≡ 0
+      → changes ≡ length (notesOf page file) → r ≡ goingOn (figuresAre (v .payments) (v .euros) changes) (v .payments) (v .euros)
+      → r ≡ sortOf page file transfer cheque
+  told-sound {v} {r} {changes} t e z c h =
+      let f = sound-fits page file transfer cheque (sym (ap (λ (v : Verdict). v .number) e) ∙ z) in
+      let b = contentOf page file (f .0) (euroSum file (f .0)) transfer cheque in
+      go (f .0) (f .1) (eqb (b .number) 0) refl (e ∙ sym (told-fits page file transfer cheque (f .0) (f .1)))
+    where
+      go : (n : ℕ) → structureOf file ≡ Fits n → (k : Bool) → eqb (contentOf page file n (euroSum file n) transfer cheque .number) 0 ≡ k
+          → v ≡ cond k (sound n (euroSum file n) (centSum file n))
+          (refused (contentOf page file n (euroSum file n) transfer cheque .number) (contentOf page file n (euroSum file n) transfer cheque .rec) (contentOf page file n (euroSum file n) transfer cheque .at))
+          → r ≡ sortOf page file transfer cheque
+      go n w true p q =
+          told-shape (Fits n) t w
+          (told-whole page file transfer cheque n w refl refl (eqb-true _ 0 p) c
+          (h ∙ ap (λ (v : Verdict). goingOn (figuresAre (v .payments) (v .euros) changes) (v .payments) (v .euros)) q))
+      go n w false p q = absurd (eqb-false _ 0 p (sym (ap (λ (v : Verdict). v .number) q) ∙ z))

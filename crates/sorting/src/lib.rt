@@ -12,7 +12,7 @@ ghost use Rattle.judge.specs.Sums.{euroSum};
 ghost use Rattle.sorting.specs.Sorted.{unsorted, inDigits, noAmount, ruleAt, behindQ, sortBy, SortedAs};
 ghost use Rattle.structure.specs.Walk.{structureOf};
 ghost use Rattle.structure.specs.declared.Shape.the-variants.{Fits};
-ghost use Rattle.sorting.specs.Counting.{withOne, Small, figuresOf, goingOn};
+ghost use Rattle.sorting.specs.Counting.{figuresAre, withOne, Small, figuresOf, goingOn};
 
 // What is kept, and what is returned.
 #[repr(C)]
@@ -149,6 +149,18 @@ fn going_on(kept: Figures, n: usize, euros: u64) -> Sorted
     }
 }
 
+// The answer where all of n payments go on, with so many euros and changes.
+pub fn whole(n: usize, euros: u64, changes: usize) -> Sorted
+    ensures { λ r. ⌜ r ≡ goingOn (figuresAre n euros changes) n euros ⌝ }
+{
+    let all = Figures {
+        payments: n as u64,
+        euros,
+        changes,
+    };
+    going_on(all, n, euros)
+}
+
 // The first broken rule of Z, or 0: with n T records, whose T14a sum up to euros. No rule of Z reads the key.
 fn z_rule(page: u32, file: &[u8], n: usize, euros: u64, transfer: &[u8], cheque: &[u8]) -> usize
     requires { ⌜ (structureOf (now file) ≡ Fits n) × (euros ≡ euroSum (now file) n) ⌝ }
@@ -190,12 +202,7 @@ fn by_records(page: u32, file: &[u8], n: usize, transfer: &[u8], cheque: &[u8]) 
     let broken = judge::content(page, file, n, euros, transfer, cheque);
     let number = broken.number;
     if number == 0 {
-        let all = Figures {
-            payments: n as u64,
-            euros,
-            changes: count::file(file),
-        };
-        return going_on(all, n, euros);
+        return whole(n, euros, count::file(file));
     }
     if number < 20 {
         return refusal(number, 0);

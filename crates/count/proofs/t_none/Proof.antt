@@ -1,6 +1,5 @@
 use borrow.Author.Needs.{needs}
 use borrow.Author.Tests.{eqb-true, eq-eqb}
-use native.Mathlib.Omega.{arith}
 use Prim.Native.Nat.{ℕ}
 use mathlib.Core.Path.{refl, sym, ap, _∙_}
 use lib.Dec.{eqb}
@@ -12,7 +11,7 @@ use Rattle.count.proofs.t_none.Tie as tie
 returns : tie.Need-returns
 returns c =
     let start = c .before .before .before .before in
-    sym (eq-eqb _ 0 (none-within 53 725 tTexts (start .args .rec .now) refl (omega (arith, start .pre)) (eqb-true _ 0 (sym (c .before .none .ensures) ∙ c .if1 .taken))))
+    sym (eq-eqb _ 0 (none-within 53 725 tTexts (start .args .rec .now) refl (eqb-true _ 0 (sym (c .before .none .ensures) ∙ c .if1 .taken))))
 
 pub t-none-spec : {M : Type 1} → statement M
 t-none-spec =

@@ -1,59 +1,39 @@
 use borrow.Author.Needs.{needs}
-use Rattle.prepare.specs.DefaultOutcome.{few, default-refused, default-short, whole-can, default-whole, can-send, default-sent}
+use Rattle.prepare.specs.Outcome.{sound-sized}
+use Rattle.prepare.specs.SoundOutcome.{default-no-page, default-sound}
 use Rattle.prepare.proofs.prepare.Statement.{statement}
 use Rattle.prepare.proofs.prepare.Tie as tie
 
 returns : tie.Need-returns
 returns c =
-    let a = c .before .before .before .before .before .before .before .before .args in
-    default-refused (a .page) (a .file .now) (a .transfer .now) (a .cheque .now) (a .out .now) (a .notes .now) (a .list .now) (c .before .sort .ensures) (c .if1 .taken)
+    let a = c .before .before .before .before .before .before .before .before .before .args in
+    default-no-page (a .page) (a .file .now) (a .transfer .now) (a .cheque .now) (a .out .now) (a .notes .now) (a .list .now) (c .before .before .is-page .ensures) (c .before .if1 .taken) (c .refusal .ensures)
 
-room-missing-requires : tie.Need-room-missing-requires
-room-missing-requires c κs =
-    let a = c .before .before .before .before .before .before .before .before .args in
-    few (a .page) (a .file .now) (a .transfer .now) (a .cheque .now) (a .out .now) (a .notes .now) (a .list .now) (c .before .sort .ensures) (c .if1 .left)
-
-returns-2 : tie.Need-returns-2
-returns-2 c =
-    let a = c .before .before .before .before .before .before .before .before .before .before .before .args in
-    default-short (a .page) (a .file .now) (a .transfer .now) (a .cheque .now) (a .out .now) (a .notes .now) (a .list .now) (c .before .before .before .before .sort .ensures) (c .before .before .before .if1 .left) (c .before .before .room-missing .ensures) (c .before .if2 .taken) (c .refusal .ensures)
-
-write-requires : tie.Need-write-requires
-write-requires c κs =
-    let a = c .before .before .before .before .before .before .before .before .before .before .before .before .before .before .before .args in
-    whole-can (a .page) (a .file .now) (a .transfer .now) (a .cheque .now) (a .out .now) (a .notes .now) (a .list .now) (c .before .before .before .before .before .before .before .before .sort .ensures) (c .before .before .before .before .before .before .before .if1 .left) (c .before .before .before .before .before .before .room-missing .ensures) (c .before .before .before .before .before .if2 .left) (c .before .before .if3 .taken)
+send-requires : tie.Need-send-requires
+send-requires c κs =
+    let a = c .before .before .before .before .before .before .before .before .before .before .before .before .args in
+    sound-sized (a .page) (a .file .now) (a .transfer .now) (a .cheque .now) (c .before .before .before .examine .ensures) (c .before .before .if2 .left)
 
 returns-3 : tie.Need-returns-3
 returns-3 c =
-    let a = c .before .before .before .before .before .before .before .before .before .before .before .before .before .before .before .before .before .before .before .before .args in
-    let w = c .before .before .before .before .write .ensures in
-    default-whole (a .page) (a .file .now) (a .transfer .now) (a .cheque .now) (a .out .now) (a .notes .now) (a .list .now) (c .before .before .before .before .before .before .before .before .before .before .before .before .before .sort .ensures) (c .before .before .before .before .before .before .before .before .before .before .before .before .if1 .left) (c .before .before .before .before .before .before .before .before .before .before .before .room-missing .ensures) (c .before .before .before .before .before .before .before .before .before .before .if2 .left) (c .before .before .before .before .before .before .before .if3 .taken) (w .0) (w .1)
-
-send-kept-requires : tie.Need-send-kept-requires
-send-kept-requires c κs =
-    let a = c .before .before .before .before .before .before .before .before .before .before .before .before .before .before .before .before .args in
-    can-send (a .page) (a .file .now) (a .transfer .now) (a .cheque .now) (a .out .now) (a .notes .now) (a .list .now) (c .before .before .before .before .before .before .before .before .before .sort .ensures) (c .before .before .before .before .before .before .before .before .if1 .left) (c .before .before .before .before .before .before .before .room-missing .ensures) (c .before .before .before .before .before .before .if2 .left)
-
-returns-4 : tie.Need-returns-4
-returns-4 c =
-    let a = c .before .before .before .before .before .before .before .before .before .before .before .before .before .before .before .before .before .before .before .before .before .before .before .args in
-    default-sent (a .page) (a .file .now) (a .transfer .now) (a .cheque .now) (a .out .now) (a .notes .now) (a .list .now) (c .before .before .before .before .before .before .before .before .before .before .before .before .before .before .before .before .sort .ensures) (c .before .before .before .before .before .before .before .before .before .before .before .before .before .before .before .if1 .left) (c .before .before .before .before .before .before .before .before .before .before .before .before .before .before .room-missing .ensures) (c .before .before .before .before .before .before .before .before .before .before .before .before .before .if2 .left) (c .before .before .before .before .before .before .send-kept .ensures)
+    let a = c .before .before .before .before .before .before .before .before .before .before .before .before .before .before .before .before .before .before .args in
+    default-sound (a .page) (a .file .now) (a .transfer .now) (a .cheque .now) (a .out .now) (a .notes .now) (a .list .now) (c .before .before .before .before .before .before .before .before .before .before .before .is-page .ensures) (c .before .before .before .before .before .before .before .before .before .before .if1 .left) (c .before .before .before .before .before .before .before .before .before .examine .ensures) (c .before .before .before .before .before .before .before .before .if2 .left) (c .before .before .before .before .before .send .ensures) (c .whole .ensures)
 
 pub prepare-spec : {M : Type 1} → statement M
 prepare-spec =
     tie.close
     (tie.spec
     (λ c κs. search needs)
-    returns
-    room-missing-requires
     (λ c κs. search needs)
-    returns-2
-    write-requires
-    (λ c. search needs)
-    (λ c. search needs)
-    returns-3
-    send-kept-requires
+    returns
+    (λ c κs. search needs)
+    (λ c κs. search needs)
     (λ c. search needs)
     (λ c. search needs)
     (λ c. search needs)
-    returns-4)
+    (λ c. search needs)
+    send-requires
+    (λ c κs. search needs)
+    (λ c. search needs)
+    (λ c. search needs)
+    returns-3)

@@ -26,7 +26,7 @@ returns : tie.Need-returns
 returns c =
     let start = c .before .before .before .before .before .before .before .before in
     let a = start .args in
-    told-whole (a .page) (a .file .now) (a .transfer .now) (a .cheque .now) (a .n) (start .pre) (c .before .before .before .before .sum .ensures .0) (c .before .before .before .content .ensures) (c .before .before .if1 .taken) (c .before .file .ensures (a .page)) (c .going-on .ensures)
+    told-whole (a .page) (a .file .now) (a .transfer .now) (a .cheque .now) (a .n) (start .pre) (c .before .before .before .before .sum .ensures .0) (c .before .before .before .content .ensures) (c .before .before .if1 .taken) (c .before .file .ensures (a .page)) (c .whole .ensures)
 
 returns-2 : tie.Need-returns-2
 returns-2 c =
