@@ -4,7 +4,8 @@
        bench PAYMENTS CALL CHANGES                nanoseconds a payment, of each side
        bench PAYMENTS CALL CHANGES SIDE TIMES     one side, from 0 on, so many times: for counting
    CALL is judge, prepare (the strict way), restore, sort or return (the default way, where nothing or one payment in ten comes
-   back), or cuts- and a number: the reader, in cuts of so many bytes. CHANGES is none or two, in a payment. */
+   back), exact (prepare with note places for the notes alone), or cuts- and a number: the reader, in cuts of so many bytes.
+   CHANGES is none or two, in a payment. */
 #include <stdbool.h>
 #include <stdio.h>
 #include <stdlib.h>
@@ -16,12 +17,13 @@
 #include "sample.h"
 #include "timing.h"
 
-enum { JUDGE, PREPARE, RESTORE, SORT, RETURN, READ };
+enum { JUDGE, PREPARE, RESTORE, SORT, RETURN, EXACT, READ };
 enum { DESK, FAST, PLAIN, SIDES };
 enum { BY_DEFAULT, STRICTLY };                              /* the sides of SORT and RETURN, both the desk's */
 enum { IN_CUTS, WHOLE };                                    /* the sides of READ, likewise */
+enum { FEW_PLACES, ENOUGH };                                /* and those of EXACT */
 enum { NONE = 0, TWO = 200 };                               /* one byte of text in 200 changes: two in a payment */
-enum { MOST_NOTES = 4 * MOST_PAYMENTS };
+enum { MOST_NOTES = DESK_NOTE_PLACES(MOST_FILE) };
 
 static const char *const side_name[SIDES] = {"the desk", "fast.c", "plain.c"};
 static const char *call_name;
@@ -31,7 +33,7 @@ static uint8_t file[MOST_FILE], forwarded[MOST_FILE], submitted[MOST_FILE], out[
 static uint32_t notes[MOST_NOTES], noted[MOST_NOTES], returned[MOST_PAYMENTS];
 
 #define LISTS (const uint8_t *)annex_ii, ANNEX_II_BYTES, (const uint8_t *)annex_i, ANNEX_I_BYTES
-#define LENT LISTS, out, n, noted, MOST_NOTES
+#define LENT LISTS, out, n, noted, DESK_NOTE_PLACES(n)
 
 /* ---- The file ---- */
 
@@ -144,6 +146,12 @@ static uint64_t restore(int side)
     }
 }
 
+/* The desk's, with no more note places than there are notes: the changes have to be counted before anything is written. */
+static uint64_t prepare_with_few_places(void)
+{
+    return desk_prepare_strict(DESK_DIN_66003, file, n, LISTS, out, n, noted, notes_n).number;
+}
+
 /* Whether so many payments come back, by the default way. */
 static bool sort(const uint8_t *of, size_t due)
 {
@@ -179,6 +187,7 @@ static bool as_due(int side)
     case RESTORE: return restore(side) == 0;
     case SORT: return side == BY_DEFAULT ? sort(file, 0) : prepare(DESK) == 0;
     case RETURN: return side == BY_DEFAULT ? sort(submitted, payments / 10) : prepare(DESK) == 0;
+    case EXACT: return side == FEW_PLACES ? prepare_with_few_places() == 0 : prepare(DESK) == 0;
     default: return side == IN_CUTS ? read_in_cuts() == notes_n : judge_and_count() == DESK_NOTE_ROOM;
     }
 }
@@ -254,7 +263,7 @@ static void print_times(void)
 /* READ with no cut_bytes where there is no such call. */
 static int call_named(const char *name)
 {
-    static const char *const names[READ] = {"judge", "prepare", "restore", "sort", "return"};
+    static const char *const names[READ] = {"judge", "prepare", "restore", "sort", "return", "exact"};
     for (int i = 0; i < READ; i++)
         if (strcmp(name, names[i]) == 0)
             return i;

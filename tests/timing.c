@@ -30,6 +30,7 @@ void best_times(void (*repeat)(int which, size_t times), int first, int last, do
     }
     for (int loop = 0; loop < TIMED_LOOPS; loop++)
         for (int i = 0; i <= last - first; i++) {
+            repeat(first + i, 1);
             double each = time_loop(repeat, first + i, times[i]) / (double)times[i];
             best[i] = each < best[i] ? each : best[i];
         }
