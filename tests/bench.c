@@ -1,5 +1,6 @@
 /* Judge, prepare and restore of the desk beside fast.c, made for speed, and plain.c, made for plainness; the default way of
-   prepare beside the strict one; and the reader beside judge and count of the whole file. Built by tests/bench.
+   prepare beside the strict one; prepare with few note places beside one with enough; and the reader beside judge and count of
+   the whole file. Built by tests/bench.
        bench PAYMENTS                             makes sure that all sides answer alike
        bench PAYMENTS CALL CHANGES                nanoseconds a payment, of each side
        bench PAYMENTS CALL CHANGES SIDE TIMES     one side, from 0 on, so many times: for counting
@@ -48,7 +49,7 @@ static uint32_t chance(void)
     return (uint32_t)(random_state >> 32);
 }
 
-/* Capitals, small letters, digits and spaces; one byte in changes is one that the table changes. */
+/* Capitals, small letters, digits, signs and spaces; one byte in changes is one that the table changes. */
 static void put_text(uint8_t *at, int width, unsigned changes)
 {
     static const char good[] = "ABCDEFGHIJKLMNOPQRSTUVWXYZ ETAOIN SHRDLU eta 0123456789 .,-/+% ";
@@ -149,7 +150,9 @@ static uint64_t restore(int side)
 /* The desk's, with no more note places than there are notes: the changes have to be counted before anything is written. */
 static uint64_t prepare_with_few_places(void)
 {
-    return desk_prepare_strict(DESK_DIN_66003, file, n, LISTS, out, n, noted, notes_n).number;
+    desk_strict answer = desk_prepare_strict(DESK_DIN_66003, file, n, LISTS, out, n, noted, notes_n);
+    noted_n = answer.notes;
+    return answer.number;
 }
 
 /* Whether so many payments come back, by the default way. */
@@ -248,6 +251,8 @@ static void compare(unsigned changes)
         clear();
         stop_unless(restore(side) == 0 && memcmp(out, file, n) == 0, "restore", side_name[side]);
     }
+    clear();
+    stop_unless(prepare_with_few_places() == 0 && went_on(), "prepare with few note places", side_name[DESK]);
     compare_default_way();
 }
 

@@ -16,7 +16,7 @@ static const char *const what[] = {"strict way, sound", "default way, sound", "d
                                    "default way, half returned", "default way, all but one", "M8 records, sound",
                                    "M8 records, half returned"};
 static uint8_t file[LONGEST], out[LONGEST], codes[DESK_M8_CODES];
-static uint32_t notes[1], returned[9999];
+static uint32_t notes[DESK_NOTE_PLACES(LONGEST)], returned[9999];
 static size_t payments, bytes, back;
 static int which;
 
@@ -48,7 +48,7 @@ static void begin(void)
 }
 
 #define SUBMITTED file, bytes, (const uint8_t *)annex_ii, ANNEX_II_BYTES, (const uint8_t *)annex_i, ANNEX_I_BYTES
-#define LENT SUBMITTED, out, bytes, notes, 1
+#define LENT SUBMITTED, out, bytes, notes, DESK_NOTE_PLACES(bytes)
 #define LENT_CODES SUBMITTED, codes, sizeof codes, out, bytes
 
 static bool as_due(void)

@@ -83,8 +83,8 @@ pub fn file(file: &[u8]) -> usize
     n
 }
 
-// Whether a T record has none. Between its text fields, and up to eleven bytes behind them, a sound record has nothing that
-// would change: so mostly one look at all of it is enough, and 672 bytes are 21 steps of 32.
+// Whether a T record has none. From T8 on to eleven bytes behind T24, nothing but text would change in a sound record, if the
+// lists from which T9a and T10a are hold letters: so mostly one look at these 672 bytes, 21 steps of 32, is enough.
 fn t_none(rec: &[u8]) -> bool
     requires { ⌜ length (now rec) ≡ 768 ⌝ }
     ensures { λ r. ⌜ r ≡ eqb (fieldChanges tTexts (now (rec .entry))) 0 ⌝ }

@@ -1,6 +1,6 @@
 -- BIC shape as the code asks for it: of the bytes as they stand, and one part after another.
 use Prim.Native.Nat.{ℕ}
-use mathlib.Core.Path.{_≡_, refl, _∙_}
+use mathlib.Core.Path.{_≡_, refl}
 use mathlib.Core.Bool.{Bool, true, false, _&&_, _||_, cond, or-true}
 use mathlib.Core.List.{List}
 use lib.ListN.{take, drop}

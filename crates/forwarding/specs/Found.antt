@@ -1,7 +1,7 @@
 -- A text field as the code finds it: s is its place, and field its bytes. It lies in its record, is short, and has fifteen bytes
 -- more of the record behind it.
 use Prim.Native.Nat.{ℕ, _+_, _≤_, _<_}
-use mathlib.Core.Path.{_≡_, refl, ap, _∙_}
+use mathlib.Core.Path.{_≡_, ap, _∙_}
 use mathlib.Core.List.{List}
 use native.Mathlib.Omega.{arith}
 use lib.Dec.{lit≤}
@@ -26,9 +26,6 @@ module _ {s : Span} (at : s ≡ qText 1) where
     pub q-short : length field ≤ 140
     q-short = omega (arith, ap length (same-part at rec bytes), part-le (qText 1) rec)
 
-    pub q-ends : s .start + length field ≤ 256
-    q-ends = rw at (omega (arith, q-short))
-
 module _ (k : ℕ) (low : 2 ≤ k) (high : k < 10) {s : Span} (at : s ≡ tText k) where
   pub t-in : (rec : List ℕ) → length rec ≡ 768 → Inside (length rec) s
   t-in rec l = inside at (t-text-inside k) l
@@ -39,8 +36,3 @@ module _ (k : ℕ) (low : 2 ≤ k) (high : k < 10) {s : Span} (at : s ≡ tText 
   module _ (rec : List ℕ) {field : List ℕ} (bytes : field ≡ part s rec) where
     pub t-short : length field ≤ 140
     t-short = omega (arith, ap length (same-part at rec bytes), part-le (tText k) rec, text-short k low high)
-
-    pub t-ends : s .start + length field ≤ 768
-    t-ends =
-        let i = inside at (t-text-inside k) refl in
-        omega (arith, i .0, i .1, ap length bytes, part-le s rec)

@@ -113,7 +113,7 @@ fn rule22(rec: &[u8]) -> usize
     )
 }
 
-// T22 is 00. Half of the rules ask for the kind of payment, so its two bytes are compared as they stand.
+// T22 is 00.
 fn is_transfer(rec: &[u8]) -> bool
     requires { ⌜ length (now rec) ≡ 768 ⌝ }
     ensures { λ r. ⌜ r ≡ isTransfer (now (rec .entry)) ⌝ }

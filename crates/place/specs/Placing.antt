@@ -14,7 +14,7 @@ use Rattle.records.specs.declared.Span.{Span}
 use Rattle.forwarding.specs.Text.{lies, qTexts, tTexts}
 use Rattle.forwarding.specs.Forwarded.{fwd, forwarded}
 use Rattle.forwarding.specs.Put.{put, put-part}
-use Rattle.forwarding.specs.Parts.{fwd-never, fwd-length}
+use Rattle.forwarding.specs.Parts.{fwd-never}
 use Rattle.forwarding.specs.Between.{between, between-long}
 use Rattle.forwarding.specs.Changes.{textNotes, changes, changes-noted}
 use Rattle.forwarding.specs.Fields.{fieldNotes, notes-more, rising}

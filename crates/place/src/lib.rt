@@ -1,5 +1,6 @@
-// The forwarded file into the output, with its notes, record by record. A record's bytes are copied to their place; then each
-// text field is noted, and where it has a note, replaced within its own stretch. So a field without change is looked at once.
+// The forwarded file into the output, with its notes, record by record. A record's bytes are copied to their place. Where none of
+// several text fields changes, they are looked at together; else each is noted, and where it has a note, replaced within its own
+// stretch of the output.
 use records::Q;
 use records::Span;
 use records::T;
@@ -84,7 +85,7 @@ fn some_fields(
     n
 }
 
-// The text fields of a T record whose bytes the part has: T8 to T10b, and T12 to T24.
+// The text fields of a T record whose bytes the part has: T8 to T10b, from place 53 on, and T12 to T24, from place 420 on.
 fn t_fields(
     page: u32,
     rec: &[u8],
@@ -101,6 +102,7 @@ fn t_fields(
     some_fields(page, rec, 420, 5, 10, part, at, notes, n)
 }
 
+// The same of a T record that stands at a place of the file, with its notes behind those that there are.
 pub fn t_record(
     page: u32,
     rec: &[u8],
