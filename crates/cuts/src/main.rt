@@ -1,5 +1,7 @@
 // The reader (document 02, A3): the places where a file may be cut, lists by the cut that completes a record, what is told
 // first, the longest file, and what comes after the end.
+#![tactic(auto)]
+
 use reader::Reader;
 
 // The list of the payments' country, and one in which it is not.

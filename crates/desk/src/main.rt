@@ -1,4 +1,6 @@
 // The desk: reads a file of any length on standard input and prints what it finds of it, in seven lines.
+#![tactic(auto)]
+
 ghost use Rattle.std.specs.Prelude.{◌≡◌, ◌-◌, take};
 ghost use Rattle.report.specs.Report.{ReadOnAs};
 ghost use Rattle.desk.specs.Input.{Reads};

@@ -1,4 +1,6 @@
 // Files for the programs that run edges, record by record, and the lines that they print.
+#![tactic(auto)]
+
 use libc::STDOUT_FILENO;
 
 pub fn say(text: &[u8]) {

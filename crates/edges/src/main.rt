@@ -1,6 +1,8 @@
 // Both sides of each edge of document 01, where each rule points (document 02, A1), and the code pages (A2), run: a line
 // for each. Where no page is told it is page 0, and page 1 in the program. Files in cuts (A3) are in the crate cuts, and
 // payments that come back (A5, A6) in the crate returns.
+#![tactic(auto)]
+
 use drafts::{say, say_answer, say_number, tell, tell_whether};
 
 mod pages;

@@ -1,4 +1,6 @@
 // The judge: the code page, structure over the whole file, then content record by record, then the taken numbers.
+#![tactic(auto)]
+
 ghost use Rattle.std.specs.Prelude.{◌≡◌, ◌+◌, ◌*◌, ◌-◌, ◌≤◌, ◌<◌, length};
 ghost use Rattle.records.specs.Places.{record_at};
 ghost use Rattle.judge.specs.Content.{rule_from, rule_end, content_of};

@@ -1,4 +1,6 @@
 // M8 records: one for each payment that comes back, field by field in the order of the receiver's table 15.
+#![tactic(auto)]
+
 ghost use Rattle.std.specs.Prelude.{◌≡◌, cond, [], ◌+◌, ◌*◌, eqb, length};
 ghost use Rattle.structure.specs.Walk.{structure_of};
 ghost use Rattle.structure.specs.declared.Shape.TheVariants.{Fits};

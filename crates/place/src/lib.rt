@@ -1,6 +1,8 @@
 // The forwarded file into the output, with its notes, record by record. A record's bytes are copied to their place. Where none of
 // several text fields changes, they are looked at together; else each is noted, and where it has a note, replaced within its own
 // stretch of the output.
+#![tactic(auto)]
+
 ghost use Rattle.std.specs.Prelude.{◌≡◌, List, [], ◌∷◌, ◌++◌, ◌+◌, ◌-◌, ◌≤◌, length};
 ghost use Rattle.charset.specs.Table.{rep};
 ghost use Rattle.records.specs.declared.Span.{Span};

@@ -1,5 +1,7 @@
 // Prepare a file for forwarding: the forwarded file into the output, and a note of each changed character. The strict way
 // takes a sound file whole; the default way sends the payments that break no rule, and names the others.
+#![tactic(auto)]
+
 ghost use Rattle.std.specs.Prelude.{◌≡◌, ◌+◌, ◌-◌, ◌/◌, ◌≤◌, length};
 ghost use Rattle.forwarding.specs.Forwarded.{forwarded, notes_of};
 ghost use Rattle.forwarding.specs.Put.{put};

@@ -1,4 +1,6 @@
 // The judge of a file that arrives in cuts. A reader is a value: each cut is handed in with it, and it comes back changed.
+#![tactic(auto)]
+
 ghost use Rattle.std.specs.Prelude.{◌≡◌, [], ◌++◌, ◌+◌, ◌-◌, ◌≤◌, ◌<◌, length, take};
 ghost use Rattle.structure.specs.Slots.{width_at};
 ghost use Rattle.forwarding.specs.Put.{put};

@@ -1,4 +1,6 @@
 // Restore: the original of a forwarded file and its notes.
+#![tactic(auto)]
+
 ghost use Rattle.std.specs.Prelude.{◌≡◌, true, ◌≤◌, ◌<◌, length};
 ghost use Rattle.charset.specs.Table.{rep};
 ghost use Rattle.forwarding.specs.Text.{t_texts, lies, text_at};

@@ -1,5 +1,7 @@
 // Payments that come back, run: a line for each edge of prepare's default way (document 02, A5) and of the M8 records
 // (A6). Where no page is told it is page 0.
+#![tactic(auto)]
+
 use drafts::tell_whether;
 
 mod default_way;

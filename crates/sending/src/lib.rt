@@ -1,5 +1,7 @@
 // The kept payments into the output, each at its new place, with their notes; the returned ones into the list; and Z with
 // fresh figures. Nothing is built in between.
+#![tactic(auto)]
+
 ghost use Rattle.std.specs.Prelude.{◌≡◌, ◌+◌, ◌*◌, ◌<◌, length};
 ghost use Rattle.sorting.specs.Kept.{digits, fresh_z};
 ghost use Rattle.structure.specs.Walk.{structure_of};

@@ -1,5 +1,7 @@
 // The book (document 02, A7 and A8): both sides of each edge. Five days, the first and the last day, 200 places, the order of
 // the refusals, what a refused take leaves; the largest figures, and the totals.
+#![tactic(auto)]
+
 use book::{Book, Taken};
 
 // What the take answers, and the day of the book after it and how many it holds. The book is given back.

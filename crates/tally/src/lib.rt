@@ -1,4 +1,6 @@
 // The judge record by record: what the whole records of a file have shown so far, and what they tell at its end.
+#![tactic(auto)]
+
 ghost use Rattle.std.specs.Prelude.{◌≡◌, [], ◌-◌, ◌≤◌, ◌<◌, length};
 ghost use Rattle.structure.specs.Slots.{width_at};
 ghost use Rattle.judge.specs.Run.{length_at};
