@@ -14,7 +14,7 @@ use tally::Tally;
 
 // The judge's answer, and how many characters the table changes in a sound file.
 #[repr(C)]
-#[derive(Drop)]
+#[derive(Clone, Copy)]
 pub struct Answer {
     pub verdict: Verdict,
     pub changes: usize,
