@@ -24,7 +24,7 @@ pub struct Shares {
 // Number 0, record 0, how many notes there are of what goes on, and the payments and whole euros; or the number of a
 // refusal, its record, and zeros.
 #[repr(C)]
-#[derive(Drop)]
+#[derive(Clone, Copy)]
 pub struct Sorted {
     pub number: usize,
     pub rec: usize,

@@ -19,7 +19,7 @@ returns-then-not-sane c = on_not _ c.is_page-exists.ensures (ap not c.if-not-exi
 
 pub slice_bounds-held-end : goal.slice_bounds-held-end
 unfolding judged_of
-slice_bounds-held-end c = omega (arith, (let h : length c.args.self.held ≡ 768 = search rules in h), (ordered c.args.self c.in_order-sane.ensures (ap not c.if-not-sane.false)).ranges)
+slice_bounds-held-end c = omega (arith, (let h : length c.args.self.held ≡ 768 = search rules in h), (ordered c.args.self c.in_order-sane.ensures (ap not c.if-not-sane.false)).fits)
 
 pub slice_bounds-conclude-end : goal.slice_bounds-conclude-end
 unfolding judged_of
