@@ -16,7 +16,7 @@ const MOST_EUROS: u64 = 999999999999999;
 
 // A file's number, the business day on which it was taken, and the file's payments and whole euros.
 #[repr(C)]
-#[derive(Drop)]
+#[derive(Clone, Copy)]
 pub struct Entry {
     pub number: u64,
     pub day: u32,
@@ -25,7 +25,7 @@ pub struct Entry {
 }
 
 #[repr(C)]
-#[derive(Drop)]
+#[derive(Clone, Copy)]
 pub struct Book {
     // The day of the last take that was not refused; of a new book, 0.
     pub day: u32,

@@ -27,11 +27,10 @@ enough_places page file notes s e h =
 
 -- where nothing changes, the file as it is is the forwarded one, and it has no notes
 module _ (page : ℕ) (file out notes : List ℕ) (none : length (notes_of page file) ≡ 0) where
-  pub same_output : {out' : List ℕ} → out' ≡ take (length file) file ++ drop (length file) out → out' ≡ put 0 (forwarded page file) out
+  pub same_output : {front : List ℕ} → front ≡ file → front ++ drop (length file) out ≡ put 0 (forwarded page file) out
   same_output e =
       let from_0 : length file ≡ 0 + length file = omega arith in
-      e
-      ∙ ap (λ (l : List ℕ). l ++ drop (length file) out) (take_all (length file) file (omega arith))
+      ap (λ (l : List ℕ). l ++ drop (length file) out) e
       ∙ ap (λ (k : ℕ). file ++ drop k out) from_0
       ∙ ap (λ (f : List ℕ). put 0 f out) (sym (as_it_is page file none))
 

@@ -92,16 +92,13 @@ module _ (page : ℕ) (g ns transfer cheque out : List ℕ) {there : Bool} (know
           }
 
 -- what is written: the file is copied, and the notes are put back
-module _ (g ns out : List ℕ) (inside-file : in_file (length g) ns ≡ true) {copied : List ℕ}
-    (c : copied ≡ take (length g) g ++ drop (length g) out) where
-  copied_is : copied ≡ g ++ drop (length g) out
-  copied_is = c ∙ ap (λ (s : List ℕ). s ++ drop (length g) out) (take-length g)
-
+module _ (g ns out : List ℕ) (inside_file : in_file (length g) ns ≡ true) {copied : List ℕ}
+    (copied_is : copied ≡ g ++ drop (length g) out) where
   pub copy_holds : in_file (length copied) ns ≡ true
-  copy_holds = inside_more (length g) (length copied) ns (omega (arith, ap length copied_is, length-append g (drop (length g) out))) inside-file
+  copy_holds = inside_more (length g) (length copied) ns (omega (arith, ap length copied_is, length-append g (drop (length g) out))) inside_file
 
   pub written : {out' : List ℕ} → out' ≡ put_notes copied ns → out' ≡ put 0 (put_notes g ns) out
   written h =
       let long : length g ≡ 0 + length (put_notes g ns) = omega (arith, notes_length ns g) in
-      h ∙ ap (λ (s : List ℕ). put_notes s ns) copied_is ∙ notes_in_front ns g (drop (length g) out) inside-file
+      h ∙ ap (λ (s : List ℕ). put_notes s ns) copied_is ∙ notes_in_front ns g (drop (length g) out) inside_file
       ∙ ap (λ (n : ℕ). put_notes g ns ++ drop n out) long
