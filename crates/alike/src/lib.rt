@@ -1,1 +1,2 @@
 // A law only, in specs/: no function.
+#![tactic(auto)]

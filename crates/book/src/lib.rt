@@ -1,4 +1,6 @@
 // The book of taken files. A book is a value: it is handed in with each take, and comes back with the answer.
+#![tactic(auto)]
+
 ghost use Rattle.std.specs.Prelude.{◌≡◌, ◌<◌, min, [], take};
 ghost use Rattle.book.specs.Model.{model, is_forgotten, is_too_large, holds};
 ghost use Rattle.book.specs.Kept.{entry_of, book_of, answered, NewBookAs, TakenAs, TotalsAs};

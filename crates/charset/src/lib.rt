@@ -1,4 +1,6 @@
 // The character table by code page: one character, and a stretch of text in place.
+#![tactic(auto)]
+
 ghost use Rattle.std.specs.Prelude.{◌≡◌};
 ghost use Rattle.charset.specs.Table.{is_page, unchanged, german, look, rep, text};
 

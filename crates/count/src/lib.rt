@@ -1,5 +1,7 @@
 // How many characters the table changes, field by field: as many as there are notes, whatever the page. And whether it
 // changes any.
+#![tactic(auto)]
+
 ghost use Rattle.std.specs.Prelude.{◌≡◌, ℕ, ◌≤◌, eqb, length};
 ghost use Rattle.forwarding.specs.Text.{q_texts, t_texts};
 ghost use Rattle.forwarding.specs.Forwarded.{notes_of};

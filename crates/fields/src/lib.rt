@@ -1,4 +1,6 @@
 // What a field may hold: classes of bytes, numbers, dates, BIC shape, and what stands in a lent list.
+#![tactic(auto)]
+
 ghost use Rattle.std.specs.Prelude.{◌≡◌, ◌&&◌, ◌≤◌, eqb, length};
 ghost use Rattle.charset.specs.Table.{rep, text};
 ghost use Rattle.fields.specs.Class.{member, all_of, blank, same};
@@ -7,7 +9,7 @@ ghost use Rattle.fields.specs.Bic.{bic_shape};
 ghost use Rattle.fields.specs.Shape.{shape_of};
 ghost use Rattle.fields.specs.Lists.{is_listed, is_taken};
 
-#[derive(Drop)]
+#[derive(Clone, Copy)]
 pub enum Class {
     Digit,
     Zero,

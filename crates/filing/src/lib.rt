@@ -1,1 +1,2 @@
 // Theorems only: stated in specs/, proved in proofs/. No function.
+#![tactic(auto)]

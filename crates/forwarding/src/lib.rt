@@ -1,1 +1,2 @@
 // Definitions and laws only, in specs/: no function.
+#![tactic(auto)]

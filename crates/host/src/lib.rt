@@ -1,4 +1,6 @@
 // The calls for hosts in C. Lent slices pass as pointer and count.
+#![tactic(auto)]
+
 ghost use Rattle.judge.specs.Verdict.{JudgedAs};
 ghost use Rattle.reader.specs.State.{NewAs, FedAs, EndedAs};
 ghost use Rattle.prepare.specs.Prepared.{PreparedAs};

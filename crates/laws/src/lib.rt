@@ -1,1 +1,2 @@
 // Laws only, in specs/: no function.
+#![tactic(auto)]

@@ -1,4 +1,6 @@
 // M8 records: one for each payment that comes back, field by field in the order of the receiver's table 15.
+#![tactic(auto)]
+
 ghost use Rattle.std.specs.Prelude.{◌≡◌, cond, [], ◌+◌, ◌*◌, eqb, length};
 ghost use Rattle.structure.specs.Walk.{structure_of};
 ghost use Rattle.structure.specs.declared.Shape.TheVariants.{Fits};
@@ -47,7 +49,7 @@ fn append(piece: &[u8], out: &mut [u8], at: usize) -> usize
     ensures { Noted piece.now at out.old out.new result }
 {
     let end = at + piece.len();
-    bytes::copy(piece, &mut out[at..end]);
+    out[at..end].copy_from_slice(piece);
     end
 }
 
@@ -80,7 +82,7 @@ fn reference(page: u32, t: &[u8], stretch: &mut [u8])
     ensures { stretch.new ≡ reference_of page t.now }
 {
     let line = records::line(T::place(TField::T15), 1);
-    bytes::copy(records::part(t, line), stretch);
+    stretch.copy_from_slice(records::part(t, line));
     charset::replace(page, stretch);
 }
 

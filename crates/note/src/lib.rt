@@ -1,4 +1,6 @@
 // The notes of a text field's changed characters, by rising place.
+#![tactic(auto)]
+
 ghost use Rattle.std.specs.Prelude.{◌≡◌, [], ◌∷◌, ◌+◌, ◌*◌, ◌≤◌, ◌<◌, cond, ltb, length};
 ghost use Rattle.forwarding.specs.Changes.{text_notes};
 ghost use Rattle.forwarding.specs.Noted.{Noted, first_notes};

@@ -1,4 +1,6 @@
 // Rules 20 to 35: a T record.
+#![tactic(auto)]
+
 ghost use Rattle.std.specs.Prelude.{◌≡◌, cond, ◌≤◌, length};
 ghost use Rattle.fields.specs.Class.{all_of, blank, same};
 ghost use Rattle.records.specs.declared.TField.TheVariants.{T10b};

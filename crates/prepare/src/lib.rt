@@ -1,5 +1,7 @@
 // Prepare a file for forwarding: the forwarded file into the output, and a note of each changed character. The strict way
 // takes a sound file whole; the default way sends the payments that break no rule, and names the others.
+#![tactic(auto)]
+
 ghost use Rattle.std.specs.Prelude.{◌≡◌, ◌+◌, ◌-◌, ◌/◌, ◌≤◌, length};
 ghost use Rattle.forwarding.specs.Forwarded.{forwarded, notes_of};
 ghost use Rattle.forwarding.specs.Put.{put};
@@ -42,7 +44,7 @@ fn write(page: u32, file: &[u8], changes: usize, out: &mut [u8], notes: &mut [u3
     ensures noted { Noted (notes_of page file.now) 0 notes.old notes.new result }
 {
     if changes == 0 {
-        bytes::copy(file, out);
+        out[..file.len()].copy_from_slice(file);
         return 0;
     }
     place::file(page, file, out, notes)

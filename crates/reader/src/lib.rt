@@ -1,4 +1,6 @@
 // The judge of a file that arrives in cuts. A reader is a value: each cut is handed in with it, and it comes back changed.
+#![tactic(auto)]
+
 ghost use Rattle.std.specs.Prelude.{◌≡◌, [], ◌++◌, ◌+◌, ◌-◌, ◌≤◌, ◌<◌, length, take};
 ghost use Rattle.structure.specs.Slots.{width_at};
 ghost use Rattle.forwarding.specs.Put.{put};
@@ -12,7 +14,7 @@ use tally::Tally;
 
 // The judge's answer, and how many characters the table changes in a sound file.
 #[repr(C)]
-#[derive(Drop)]
+#[derive(Clone, Copy)]
 pub struct Answer {
     pub verdict: Verdict,
     pub changes: usize,
@@ -76,7 +78,7 @@ fn hold(held: [u8; 768], have: usize, more: &[u8]) -> [u8; 768]
     ensures { result ≡ put have more.now held }
 {
     let mut room = held;
-    bytes::copy(more, &mut room[have..]);
+    room[have..have + more.len()].copy_from_slice(more);
     room
 }
 

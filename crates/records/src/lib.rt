@@ -1,4 +1,6 @@
 // The record kinds, and where their fields stand.
+#![tactic(auto)]
+
 ghost use Rattle.std.specs.Prelude.{◌≡◌, ◌≤◌, ◌<◌, length};
 ghost use Rattle.records.specs.Inside.{Held};
 ghost use Rattle.records.specs.Places.{◌to◌, record_at, line_of, PartOf, q_place, t_place, z_place, q_text, t_text};

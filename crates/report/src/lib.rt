@@ -1,4 +1,6 @@
 // What the program says of its input: its seven numbers. It reads the input in pieces, as they come.
+#![tactic(auto)]
+
 ghost use Rattle.std.specs.Prelude.{◌≡◌};
 ghost use Rattle.report.specs.Report.{lines, StartedAs, ReadOnAs, SaidAs};
 

@@ -1,4 +1,6 @@
 // Restore: the original of a forwarded file and its notes.
+#![tactic(auto)]
+
 ghost use Rattle.std.specs.Prelude.{◌≡◌, true, ◌≤◌, ◌<◌, length};
 ghost use Rattle.charset.specs.Table.{rep};
 ghost use Rattle.forwarding.specs.Text.{t_texts, lies, text_at};
@@ -116,7 +118,7 @@ fn write(forwarded: &[u8], notes: &[u32], out: &mut [u8])
     requires { (length forwarded.now ≤ length out.old) × (in_file (length forwarded.now) notes.now ≡ true) }
     ensures { out.new ≡ put 0 (put_notes forwarded.now notes.now) out.old }
 {
-    bytes::copy(forwarded, out);
+    out[..forwarded.len()].copy_from_slice(forwarded);
     put_back(notes, out);
 }
 

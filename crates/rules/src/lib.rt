@@ -1,4 +1,6 @@
 // Rules of the Q record, 10 to 16, and of the Z record, 40 to 42: the place of the field that breaks a rule, or 0.
+#![tactic(auto)]
+
 ghost use Rattle.std.specs.Prelude.{◌≡◌, ◌+◌, ◌≤◌, length};
 ghost use Rattle.rules.specs.Wrong.{line_blank};
 

@@ -1,5 +1,7 @@
 // The kept payments into the output, each at its new place, with their notes; the returned ones into the list; and Z with
 // fresh figures. Nothing is built in between.
+#![tactic(auto)]
+
 ghost use Rattle.std.specs.Prelude.{◌≡◌, ◌+◌, ◌*◌, ◌<◌, length};
 ghost use Rattle.sorting.specs.Kept.{digits, fresh_z};
 ghost use Rattle.structure.specs.Walk.{structure_of};
@@ -28,7 +30,7 @@ fn fresh_z(z: &[u8], payments: u64, euros: u64, part: &mut [u8])
     requires { (length z.now ≡ 256) × (length part.old ≡ 256) }
     ensures { part.new ≡ fresh_z z.now payments euros }
 {
-    bytes::copy(z, part);
+    part.copy_from_slice(z);
     let z3 = Z::place(ZField::Z3);
     let start = z3.start;
     let end = z3.end;

@@ -1,4 +1,6 @@
 // Show a field: the very part of the lent file.
+#![tactic(auto)]
+
 ghost use Rattle.std.specs.Prelude.{◌≡◌, ◌≤◌};
 ghost use Rattle.show.specs.Shown.{moved, shown_at, ShownAs};
 

@@ -1,4 +1,6 @@
 // Sorting a file's payments: those that break a rule come back, and the others go on.
+#![tactic(auto)]
+
 ghost use Rattle.std.specs.Prelude.{◌≡◌, ◌+◌, ◌*◌, ◌≤◌, ◌<◌, length};
 ghost use Rattle.sorting.specs.Kept.{first_of};
 ghost use Rattle.judge.specs.Sums.{euro_sum};
@@ -13,7 +15,7 @@ use structure::Shape;
 
 // What is kept, and what is returned.
 #[repr(C)]
-#[derive(Drop)]
+#[derive(Clone, Copy)]
 pub struct Shares {
     pub kept: u64,
     pub returned: u64,

@@ -1,4 +1,6 @@
 // The walk over a file's records.
+#![tactic(auto)]
+
 ghost use Rattle.std.specs.Prelude.{◌≡◌, ◌+◌, ◌-◌, ◌≤◌, ◌<◌, length};
 ghost use Rattle.fields.specs.Class.{same};
 ghost use Rattle.records.specs.Places.{record_at};

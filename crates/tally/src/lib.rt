@@ -1,4 +1,6 @@
 // The judge record by record: what the whole records of a file have shown so far, and what they tell at its end.
+#![tactic(auto)]
+
 ghost use Rattle.std.specs.Prelude.{◌≡◌, [], ◌-◌, ◌≤◌, ◌<◌, length};
 ghost use Rattle.structure.specs.Slots.{width_at};
 ghost use Rattle.judge.specs.Run.{length_at};
@@ -9,7 +11,7 @@ ghost use Rattle.tally.specs.Conclude.{at_z, conclude_of};
 use judge::{Breach, Verdict};
 
 #[repr(C)]
-#[derive(Drop)]
+#[derive(Clone, Copy)]
 pub struct Tally {
     // How many records were whole: the number of the one that comes next.
     pub next: usize,
@@ -98,7 +100,7 @@ fn key_at(k: usize, key: [u8; 21], slot: &[u8]) -> [u8; 21]
         return key;
     }
     let mut first = key;
-    bytes::copy(payments::key(slot), &mut first);
+    first.copy_from_slice(payments::key(slot));
     first
 }
 

@@ -1,0 +1,12 @@
+use mathlib.Core.Path.{◌≡◌}
+use Prim.Native.Nat.{◌-◌}
+use lib.ListN.{length, drop}
+use Rattle.charset.specs.Table.{text}
+use Rattle.fields.specs.Class.{all_of}
+use Rattle.fields.proofs.all_text.Given as goal
+
+abbrev pub invariant-loop-i : goal.invariant-loop-i
+invariant-loop-i l = all_of l.c (text l.page (drop l.i l.s)) ≡ all_of l.c (text l.page l.s)
+
+abbrev pub decreases-loop-i : goal.decreases-loop-i
+decreases-loop-i l = length l.s - l.i

@@ -1,0 +1,11 @@
+use mathlib.Core.Path.{refl}
+use Rattle.laws.specs.Choice.{same_choice}
+use Rattle.payments.specs.Rules.{rule22}
+use Rattle.payments.proofs.rule22.Goals as goal
+
+pub returns : goal.returns
+unfolding rule22
+returns c = same_choice _ c.at-4.ensures c.all.ensures
+    (same_choice _ c.at-3.ensures c.all-2.ensures
+    (same_choice _ c.at-2.ensures c.all-3.ensures
+    (same_choice _ c.at.ensures c.all-4.ensures refl)))

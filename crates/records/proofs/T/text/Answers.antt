@@ -1,0 +1,29 @@
+use Rattle.laws.specs.Choice.{picks}
+use Rattle.records.proofs.T.text.Goals as goal
+
+pub returns-in-2 : goal.returns-in-2
+returns-in-2 c = rw c.in-2.is c.place.ensures
+
+pub returns-in-3 : goal.returns-in-3
+returns-in-3 c = rw c.in-3.is c.place-in-3.ensures
+
+pub returns-in-4 : goal.returns-in-4
+returns-in-4 c = rw c.in-4.is c.place-in-4.ensures
+
+pub returns-in-5 : goal.returns-in-5
+returns-in-5 c = rw c.in-5.is c.place-in-5.ensures
+
+pub returns-in-6 : goal.returns-in-6
+returns-in-6 c = rw c.in-6.is c.place-in-6.ensures
+
+pub returns-in-7 : goal.returns-in-7
+returns-in-7 c = rw c.in-7.is c.place-in-7.ensures
+
+pub returns-in-8 : goal.returns-in-8
+returns-in-8 c = rw c.in-8.is c.place-in-8.ensures
+
+pub returns-in-9 : goal.returns-in-9
+returns-in-9 c = rw c.in-9.is c.place-in-9.ensures
+
+pub returns-in_default : goal.returns-in_default
+returns-in_default c = search picks depth 24
