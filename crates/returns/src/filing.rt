@@ -190,9 +190,10 @@ fn lent(
         &codes[..table],
         &mut out[..room],
     );
+    let count = f.count;
     say_sizes(rt, edge, table, room)?;
     tell_filed(rt, b"", f)?;
-    tell_left(rt, f.count, &out, due)
+    tell_left(rt, count, &out, due)
 }
 
 // Both sides of 62.
