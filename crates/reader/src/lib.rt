@@ -21,7 +21,7 @@ pub struct Answer {
 }
 
 #[repr(C)]
-#[derive(Drop)]
+#[derive(Clone, Copy)]
 pub struct Reader {
     pub page: u32,
     // 0 while cuts may come; from the first end on, another number.
