@@ -5,36 +5,37 @@ ghost use Rattle.std.specs.Prelude.{◌≡◌, ◌-◌, take};
 ghost use Rattle.report.specs.Report.{ReadOnAs};
 ghost use Rattle.desk.specs.Input.{Reads};
 
-use libc::{STDIN_FILENO, STDOUT_FILENO};
 use reader::Reader;
 use report::Report;
+use std::io;
+use std::io::Read;
 
-// A reader after a read, how many bytes that brought, and whether it answered an error.
+// A reader after a read, how many bytes that brought, and the error that it answered, if any.
 #[derive(Drop)]
 struct Piece {
     reader: Reader,
     count: usize,
-    failed: bool,
+    error: Option<io::Error>,
 }
 
-// A reader after all of the input; failed where a read answered an error.
+// A reader after all of the input, or after what came before a read answered an error.
 #[derive(Drop)]
 struct Input {
     reader: Reader,
-    failed: bool,
+    error: Option<io::Error>,
 }
 
 // One read, by way of the room.
-fn read_piece(reader: Reader, room: &mut [u8]) -> Piece
+fn read_piece(input: &mut impl Read, reader: Reader, room: &mut [u8]) -> Piece
     ensures { ReadOnAs reader (take result.count room.new) result.reader }
 {
-    let got = libc::read(STDIN_FILENO, room);
-    let count = io::count(got, room);
+    let got = input.read(room);
+    let count = got.unwrap_or(0);
     let next = report::read_on(reader, &room[..count]);
     Piece {
         reader: next,
         count,
-        failed: got < 0,
+        error: got.err(),
     }
 }
 
@@ -50,59 +51,53 @@ fn less(left: usize, count: usize) -> usize
 
 // Reads until the input ends, a read fails, or one byte more has come than a file may have, after which no byte changes
 // the answer.
-fn read_input(room: &mut [u8]) -> Input
+fn read_input(input: &mut impl Read, room: &mut [u8]) -> Input
     ensures { Reads result.reader }
 {
     let mut reader = report::start();
     let mut left = 7679745;
     while 0 < left {
-        let piece = read_piece(reader, room);
+        let piece = read_piece(input, reader, room);
         let next = piece.reader;
         reader = next;
         let count = piece.count;
-        if piece.failed {
-            return Input {
-                reader,
-                failed: true,
-            };
+        let error = piece.error;
+        if error.is_some() {
+            return Input { reader, error };
         }
         if count == 0 {
             return Input {
                 reader,
-                failed: false,
+                error: None,
             };
         }
         left = less(left, count);
     }
     Input {
         reader,
-        failed: false,
+        error: None,
     }
 }
 
-fn print_line(name: &[u8], n: u64) {
-    io::write_all(STDOUT_FILENO, name);
-    io::print_decimal(STDOUT_FILENO, n);
-    io::write_all(STDOUT_FILENO, b"\n");
+fn print_line(rt: &impl Print, name: &str, n: u64) -> io::Result<()> {
+    println!(rt; "{name}={n}")
 }
 
-fn print_report(r: Report) {
-    print_line(b"verdict=", r.verdict as u64);
-    print_line(b"record=", r.rec as u64);
-    print_line(b"at=", r.at as u64);
-    print_line(b"payments=", r.payments as u64);
-    print_line(b"euros=", r.euros);
-    print_line(b"cents=", r.cents);
-    print_line(b"changes=", r.changes as u64);
+fn print_report(rt: &impl Print, r: Report) -> io::Result<()> {
+    print_line(rt, "verdict", r.verdict as u64)?;
+    print_line(rt, "record", r.rec as u64)?;
+    print_line(rt, "at", r.at as u64)?;
+    print_line(rt, "payments", r.payments as u64)?;
+    print_line(rt, "euros", r.euros)?;
+    print_line(rt, "cents", r.cents)?;
+    print_line(rt, "changes", r.changes as u64)
 }
 
-fn main() {
-    let mut space = io::large_buffer();
-    let input = read_input(&mut space);
-    if input.failed {
-        os::fail(b"desk: standard input cannot be read");
-        return;
+fn main(rt: HostRuntime) -> io::Result<()> {
+    let mut room = [0u8; 65536];
+    let input = read_input(&mut rt.stdin(), &mut room);
+    if let Some(e) = input.error {
+        return eprintln!(rt; "desk: standard input cannot be read: {e}");
     }
-    let reader = input.reader;
-    print_report(report::tell(reader));
+    print_report(&rt, report::tell(input.reader))
 }

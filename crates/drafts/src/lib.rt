@@ -1,36 +1,35 @@
 // Files for the programs that run edges, record by record, and the lines that they print.
 #![tactic(auto)]
 
-use libc::STDOUT_FILENO;
+use std::io;
 
-pub fn say(text: &[u8]) {
-    io::write_all(STDOUT_FILENO, text);
+pub fn say(rt: &impl Print, text: &[u8]) -> io::Result<()> {
+    rt.write_all(text)
 }
 
-pub fn say_number(name: &[u8], n: u64) {
-    say(name);
-    io::print_decimal(STDOUT_FILENO, n);
+pub fn say_number(rt: &impl Print, name: &[u8], n: u64) -> io::Result<()> {
+    say(rt, name)?;
+    rt.print(n)
 }
 
-pub fn say_answer(edge: &[u8], number: usize, rec: usize) {
-    say(edge);
-    say_number(b": ", number as u64);
-    say_number(b" at ", rec as u64);
+pub fn say_answer(rt: &impl Print, edge: &[u8], number: usize, rec: usize) -> io::Result<()> {
+    say(rt, edge)?;
+    say_number(rt, b": ", number as u64)?;
+    say_number(rt, b" at ", rec as u64)
 }
 
 // A line: the edge, its number and record.
-pub fn tell(edge: &[u8], number: usize, rec: usize) {
-    say_answer(edge, number, rec);
-    say(b"\n");
+pub fn tell(rt: &impl Print, edge: &[u8], number: usize, rec: usize) -> io::Result<()> {
+    say_answer(rt, edge, number, rec)?;
+    say(rt, b"\n")
 }
 
-pub fn tell_whether(edge: &[u8], holds: bool) {
-    say(edge);
+pub fn tell_whether(rt: &impl Print, edge: &[u8], holds: bool) -> io::Result<()> {
+    say(rt, edge)?;
     if holds {
-        say(b": yes\n");
-        return;
+        return say(rt, b": yes\n");
     }
-    say(b": no\n");
+    say(rt, b": no\n")
 }
 
 // Writes a byte where there is room for it; answers the place behind it.

@@ -3,6 +3,7 @@
 #![tactic(auto)]
 
 use drafts::tell_whether;
+use std::io;
 
 mod default_way;
 mod draft;
@@ -13,15 +14,14 @@ const LIST: [u8; 2] = *b"US";
 const PATTERN: u8 = 170;
 
 // Whether the output is as due. Where nothing is written, the pattern that it came with is due.
-fn tell_output(written: bool, as_due: bool) {
+fn tell_output(rt: &impl Print, written: bool, as_due: bool) -> io::Result<()> {
     if written {
-        tell_whether(b"  output as due, and untouched behind", as_due);
-        return;
+        return tell_whether(rt, b"  output as due, and untouched behind", as_due);
     }
-    tell_whether(b"  output untouched", as_due);
+    tell_whether(rt, b"  output untouched", as_due)
 }
 
-fn main() {
-    default_way::edges();
-    filing::edges();
+fn main(rt: HostRuntime) -> io::Result<()> {
+    default_way::edges(&rt)?;
+    filing::edges(&rt)
 }

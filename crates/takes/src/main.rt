@@ -3,33 +3,42 @@
 #![tactic(auto)]
 
 use book::{Book, Taken};
+use std::io;
 
 // What the take answers, and the day of the book after it and how many it holds. The book is given back.
-fn tells(edge: &[u8], taken: Taken) -> Book {
+fn tells(rt: &impl Print, edge: &[u8], taken: Taken) -> io::Result<Book> {
     let after = taken.book;
-    drafts::say(edge);
-    drafts::say_number(b": ", taken.number as u64);
-    drafts::say_number(b", day ", after.day as u64);
-    drafts::say_number(b", held ", after.held as u64);
-    after
+    drafts::say(rt, edge)?;
+    drafts::say_number(rt, b": ", taken.number as u64)?;
+    drafts::say_number(rt, b", day ", after.day as u64)?;
+    drafts::say_number(rt, b", held ", after.held as u64)?;
+    Ok(after)
 }
 
 // A line of a take in which figures do not matter.
-fn takes(edge: &[u8], book: Book, number: u64, day: u32) -> Book {
-    let after = tells(edge, book.take(number, day, 0, 0));
-    drafts::say(b"\n");
-    after
+fn takes(rt: &impl Print, edge: &[u8], book: Book, number: u64, day: u32) -> io::Result<Book> {
+    let after = tells(rt, edge, book.take(number, day, 0, 0))?;
+    drafts::say(rt, b"\n")?;
+    Ok(after)
 }
 
 // A line of any take, with the totals of the book after it.
-fn totals(edge: &[u8], book: Book, number: u64, day: u32, payments: u64, euros: u64) -> Book {
-    let after = tells(edge, book.take(number, day, payments, euros));
+fn totals(
+    rt: &impl Print,
+    edge: &[u8],
+    book: Book,
+    number: u64,
+    day: u32,
+    payments: u64,
+    euros: u64,
+) -> io::Result<Book> {
+    let after = tells(rt, edge, book.take(number, day, payments, euros))?;
     let totals = after.totals();
-    drafts::say_number(b", files ", totals.files as u64);
-    drafts::say_number(b", payments ", totals.payments);
-    drafts::say_number(b", euros ", totals.euros);
-    drafts::say(b"\n");
-    after
+    drafts::say_number(rt, b", files ", totals.files as u64)?;
+    drafts::say_number(rt, b", payments ", totals.payments)?;
+    drafts::say_number(rt, b", euros ", totals.euros)?;
+    drafts::say(rt, b"\n")?;
+    Ok(after)
 }
 
 // The numbers from `first` on, without `end`, all taken on one day and without a line.
@@ -48,195 +57,254 @@ fn with_many(book: Book, first: u64, end: u64, day: u32) -> Book {
     with_files(book, first, end, day, 0, 0)
 }
 
-fn five_days() {
-    let book = takes(b"1 on day 7, new book", Book::new(), 1, 7);
-    takes(b"  1 on day 6", book, 1, 6);
-    takes(b"  1 on day 7", book, 1, 7);
-    takes(b"  1 on day 11", book, 1, 11);
-    takes(b"  1 on day 12", book, 1, 12);
-    takes(b"  2 on day 6", book, 2, 6);
-    takes(b"  2 on day 7", book, 2, 7);
-    takes(b"  2 on day 11", book, 2, 11);
-    takes(b"  2 on day 12", book, 2, 12);
+fn five_days(rt: &impl Print) -> io::Result<()> {
+    let book = takes(rt, b"1 on day 7, new book", Book::new(), 1, 7)?;
+    takes(rt, b"  1 on day 6", book, 1, 6)?;
+    takes(rt, b"  1 on day 7", book, 1, 7)?;
+    takes(rt, b"  1 on day 11", book, 1, 11)?;
+    takes(rt, b"  1 on day 12", book, 1, 12)?;
+    takes(rt, b"  2 on day 6", book, 2, 6)?;
+    takes(rt, b"  2 on day 7", book, 2, 7)?;
+    takes(rt, b"  2 on day 11", book, 2, 11)?;
+    takes(rt, b"  2 on day 12", book, 2, 12)?;
+    Ok(())
 }
 
-fn first_and_last_day() {
-    takes(b"1 on day 0, new book", Book::new(), 1, 0);
-    let last = takes(b"1 on the last day, new book", Book::new(), 1, 4294967295);
-    takes(b"  1 on the last day", last, 1, 4294967295);
-    takes(b"  2 on the last day", last, 2, 4294967295);
-    takes(b"  2 on the day before it", last, 2, 4294967294);
+fn first_and_last_day(rt: &impl Print) -> io::Result<()> {
+    takes(rt, b"1 on day 0, new book", Book::new(), 1, 0)?;
+    let last = takes(
+        rt,
+        b"1 on the last day, new book",
+        Book::new(),
+        1,
+        4294967295,
+    )?;
+    takes(rt, b"  1 on the last day", last, 1, 4294967295)?;
+    takes(rt, b"  2 on the last day", last, 2, 4294967295)?;
+    takes(rt, b"  2 on the day before it", last, 2, 4294967294)?;
     let held = takes(
+        rt,
         b"1 four days before it, new book",
         Book::new(),
         1,
         4294967291,
-    );
-    takes(b"  1 on the last day", held, 1, 4294967295);
+    )?;
+    takes(rt, b"  1 on the last day", held, 1, 4294967295)?;
     let forgotten = takes(
+        rt,
         b"1 five days before it, new book",
         Book::new(),
         1,
         4294967290,
-    );
-    takes(b"  1 on the last day", forgotten, 1, 4294967295);
+    )?;
+    takes(rt, b"  1 on the last day", forgotten, 1, 4294967295)?;
+    Ok(())
 }
 
-fn numbers() {
-    let least = takes(b"number 0, new book", Book::new(), 0, 1);
-    takes(b"  number 0", least, 0, 1);
+fn numbers(rt: &impl Print) -> io::Result<()> {
+    let least = takes(rt, b"number 0, new book", Book::new(), 0, 1)?;
+    takes(rt, b"  number 0", least, 0, 1)?;
     let both = takes(
+        rt,
         b"  number 18446744073709551615",
         least,
         18446744073709551615,
         1,
-    );
+    )?;
     takes(
+        rt,
         b"    number 18446744073709551615",
         both,
         18446744073709551615,
         1,
-    );
-    takes(b"    number 4294967295", both, 4294967295, 1);
+    )?;
+    takes(rt, b"    number 4294967295", both, 4294967295, 1)?;
+    Ok(())
 }
 
-fn places() {
+fn places(rt: &impl Print) -> io::Result<()> {
     let few = with_many(Book::new(), 1, 200, 1);
-    let full = takes(b"200 with 199 held", few, 200, 1);
-    takes(b"  201 with 200 held", full, 201, 1);
-    takes(b"  200 with 200 held", full, 200, 1);
-    takes(b"  1 with 200 held, on an earlier day", full, 1, 0);
-    takes(b"  201 on day 5", full, 201, 5);
-    takes(b"  201 on day 6", full, 201, 6);
+    let full = takes(rt, b"200 with 199 held", few, 200, 1)?;
+    takes(rt, b"  201 with 200 held", full, 201, 1)?;
+    takes(rt, b"  200 with 200 held", full, 200, 1)?;
+    takes(rt, b"  1 with 200 held, on an earlier day", full, 1, 0)?;
+    takes(rt, b"  201 on day 5", full, 201, 5)?;
+    takes(rt, b"  201 on day 6", full, 201, 6)?;
     let mixed = with_many(with_many(Book::new(), 1, 101, 1), 101, 201, 3);
     takes(
+        rt,
         b"201 on day 5, 100 held since day 1 and 100 since day 3",
         mixed,
         201,
         5,
-    );
-    let again = takes(b"  201 on day 6", mixed, 201, 6);
+    )?;
+    let again = takes(rt, b"  201 on day 6", mixed, 201, 6)?;
     let refilled = with_many(again, 202, 301, 6);
-    takes(b"    300 with 200 held again", refilled, 300, 6);
-    takes(b"    301 with 200 held again", refilled, 301, 6);
-    takes(b"  201 on day 8", mixed, 201, 8);
+    takes(rt, b"    300 with 200 held again", refilled, 300, 6)?;
+    takes(rt, b"    301 with 200 held again", refilled, 301, 6)?;
+    takes(rt, b"  201 on day 8", mixed, 201, 8)?;
+    Ok(())
 }
 
-fn refused() {
-    let book = takes(b"1 on day 3, new book", Book::new(), 1, 3);
-    let held = takes(b"  1 on day 7", book, 1, 7);
-    takes(b"    2 on day 3", held, 2, 3);
-    takes(b"    2 on day 2", held, 2, 2);
+fn refused(rt: &impl Print) -> io::Result<()> {
+    let book = takes(rt, b"1 on day 3, new book", Book::new(), 1, 3)?;
+    let held = takes(rt, b"  1 on day 7", book, 1, 7)?;
+    takes(rt, b"    2 on day 3", held, 2, 3)?;
+    takes(rt, b"    2 on day 2", held, 2, 2)?;
     let many = with_many(Book::new(), 1, 201, 3);
-    let full = takes(b"201 on day 7, 200 held since day 3", many, 201, 7);
-    takes(b"  1 on day 3", full, 1, 3);
-    takes(b"  201 on day 2", full, 201, 2);
-    takes(b"  201 on day 8", full, 201, 8);
+    let full = takes(rt, b"201 on day 7, 200 held since day 3", many, 201, 7)?;
+    takes(rt, b"  1 on day 3", full, 1, 3)?;
+    takes(rt, b"  201 on day 2", full, 201, 2)?;
+    takes(rt, b"  201 on day 8", full, 201, 8)?;
+    Ok(())
 }
 
-fn figures() {
+fn figures(rt: &impl Print) -> io::Result<()> {
     let new = Book::new();
     totals(
+        rt,
         b"1 on day 7, no payments and no euros, new book",
         new,
         1,
         7,
         0,
         0,
-    );
-    totals(b"1 on day 7, 9999 payments", new, 1, 7, 9999, 1);
-    totals(b"1 on day 7, 10000 payments", new, 1, 7, 10000, 1);
-    totals(b"1 on day 7, 4294967296 payments", new, 1, 7, 4294967296, 1);
+    )?;
+    totals(rt, b"1 on day 7, 9999 payments", new, 1, 7, 9999, 1)?;
+    totals(rt, b"1 on day 7, 10000 payments", new, 1, 7, 10000, 1)?;
     totals(
+        rt,
+        b"1 on day 7, 4294967296 payments",
+        new,
+        1,
+        7,
+        4294967296,
+        1,
+    )?;
+    totals(
+        rt,
         b"1 on day 7, 18446744073709551615 payments",
         new,
         1,
         7,
         18446744073709551615,
         1,
-    );
+    )?;
     totals(
+        rt,
         b"1 on day 7, 999999999999999 euros",
         new,
         1,
         7,
         1,
         999999999999999,
-    );
+    )?;
     totals(
+        rt,
         b"1 on day 7, 1000000000000000 euros",
         new,
         1,
         7,
         1,
         1000000000000000,
-    );
+    )?;
     totals(
+        rt,
         b"1 on day 7, 18446744073709551615 euros",
         new,
         1,
         7,
         1,
         18446744073709551615,
-    );
+    )?;
     totals(
+        rt,
         b"1 on day 7, 1 payment and 10000 euros",
         new,
         1,
         7,
         1,
         10000,
-    );
+    )?;
+    Ok(())
 }
 
-fn figures_first() {
+fn figures_first(rt: &impl Print) -> io::Result<()> {
     let book = totals(
+        rt,
         b"1 on day 7, 3 payments and 50 euros",
         Book::new(),
         1,
         7,
         3,
         50,
-    );
-    totals(b"  2 on day 6, 9999 payments", book, 2, 6, 9999, 50);
-    totals(b"  2 on day 6, 10000 payments", book, 2, 6, 10000, 50);
-    totals(b"  1 on day 7, 9999 payments", book, 1, 7, 9999, 50);
-    totals(b"  1 on day 7, 10000 payments", book, 1, 7, 10000, 50);
-    totals(b"  1 on day 12, 10000 payments", book, 1, 12, 10000, 50);
+    )?;
+    totals(rt, b"  2 on day 6, 9999 payments", book, 2, 6, 9999, 50)?;
+    totals(rt, b"  2 on day 6, 10000 payments", book, 2, 6, 10000, 50)?;
+    totals(rt, b"  1 on day 7, 9999 payments", book, 1, 7, 9999, 50)?;
+    totals(rt, b"  1 on day 7, 10000 payments", book, 1, 7, 10000, 50)?;
+    totals(rt, b"  1 on day 12, 10000 payments", book, 1, 12, 10000, 50)?;
     let full = with_files(Book::new(), 1, 201, 7, 9999, 999999999999999);
-    totals(b"201 with 200 of the largest held", full, 201, 7, 1, 1);
-    totals(b"  201 with 10000 payments", full, 201, 7, 10000, 1);
-    totals(b"  201 on day 11", full, 201, 11, 1, 1);
-    totals(b"  201 on day 12", full, 201, 12, 1, 1);
+    totals(rt, b"201 with 200 of the largest held", full, 201, 7, 1, 1)?;
+    totals(rt, b"  201 with 10000 payments", full, 201, 7, 10000, 1)?;
+    totals(rt, b"  201 on day 11", full, 201, 11, 1, 1)?;
+    totals(rt, b"  201 on day 12", full, 201, 12, 1, 1)?;
+    Ok(())
 }
 
-fn sums() {
+fn sums(rt: &impl Print) -> io::Result<()> {
     let one = totals(
+        rt,
         b"1 on day 1, 10 payments and 1000 euros",
         Book::new(),
         1,
         1,
         10,
         1000,
-    );
-    let two = totals(b"  2 on day 1, 20 and 2000", one, 2, 1, 20, 2000);
-    let three = totals(b"  3 on day 2, 40 and 4000", two, 3, 2, 40, 4000);
-    let four = totals(b"  4 on day 5, 80 and 8000", three, 4, 5, 80, 8000);
-    totals(b"    5 on day 4", four, 5, 4, 160, 16000);
-    totals(b"    4 on day 9", four, 4, 9, 160, 16000);
-    totals(b"    5 on day 6, two forgotten", four, 5, 6, 160, 16000);
-    totals(b"    5 on day 7, three forgotten", four, 5, 7, 160, 16000);
-    totals(b"    5 on day 9, three forgotten", four, 5, 9, 160, 16000);
-    totals(b"    5 on day 10, all forgotten", four, 5, 10, 160, 16000);
+    )?;
+    let two = totals(rt, b"  2 on day 1, 20 and 2000", one, 2, 1, 20, 2000)?;
+    let three = totals(rt, b"  3 on day 2, 40 and 4000", two, 3, 2, 40, 4000)?;
+    let four = totals(rt, b"  4 on day 5, 80 and 8000", three, 4, 5, 80, 8000)?;
+    totals(rt, b"    5 on day 4", four, 5, 4, 160, 16000)?;
+    totals(rt, b"    4 on day 9", four, 4, 9, 160, 16000)?;
+    totals(rt, b"    5 on day 6, two forgotten", four, 5, 6, 160, 16000)?;
+    totals(
+        rt,
+        b"    5 on day 7, three forgotten",
+        four,
+        5,
+        7,
+        160,
+        16000,
+    )?;
+    totals(
+        rt,
+        b"    5 on day 9, three forgotten",
+        four,
+        5,
+        9,
+        160,
+        16000,
+    )?;
+    totals(
+        rt,
+        b"    5 on day 10, all forgotten",
+        four,
+        5,
+        10,
+        160,
+        16000,
+    )?;
+    Ok(())
 }
 
-fn main() {
-    five_days();
-    first_and_last_day();
-    numbers();
-    places();
-    refused();
-    figures();
-    figures_first();
-    sums();
+fn main(rt: HostRuntime) -> io::Result<()> {
+    five_days(&rt)?;
+    first_and_last_day(&rt)?;
+    numbers(&rt)?;
+    places(&rt)?;
+    refused(&rt)?;
+    figures(&rt)?;
+    figures_first(&rt)?;
+    sums(&rt)
 }
