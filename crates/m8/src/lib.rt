@@ -49,7 +49,7 @@ fn append(piece: &[u8], out: &mut [u8], at: usize) -> usize
     ensures { Noted piece.now at out.old out.new result }
 {
     let end = at + piece.len();
-    bytes::copy(piece, &mut out[at..end]);
+    out[at..end].copy_from_slice(piece);
     end
 }
 
@@ -82,7 +82,7 @@ fn reference(page: u32, t: &[u8], stretch: &mut [u8])
     ensures { stretch.new ≡ reference_of page t.now }
 {
     let line = records::line(T::place(TField::T15), 1);
-    bytes::copy(records::part(t, line), stretch);
+    stretch.copy_from_slice(records::part(t, line));
     charset::replace(page, stretch);
 }
 

@@ -49,7 +49,7 @@ pub fn q_record(page: u32, rec: &[u8], part: &mut [u8], notes: &mut [u32]) -> us
     ensures output { part.new ≡ fwd (rep page) (lies q_texts) 0 rec.now }
     ensures noted { Noted (field_notes q_texts 0 rec.now) 0 notes.old notes.new result }
 {
-    bytes::copy(rec, part);
+    part.copy_from_slice(rec);
     field(page, rec, Q::text(1), part, 0, notes, 0)
 }
 
@@ -112,7 +112,7 @@ pub fn t_record(
     ensures output { part.new ≡ fwd (rep page) (lies t_texts) 0 rec.now }
     ensures noted { Noted (field_notes t_texts at rec.now) have notes.old notes.new result }
 {
-    bytes::copy(rec, part);
+    part.copy_from_slice(rec);
     t_fields(page, rec, part, at, notes, have)
 }
 
@@ -143,6 +143,6 @@ pub fn file(page: u32, file: &[u8], out: &mut [u8], notes: &mut [u32]) -> usize
     let end = all - Z::LENGTH;
     let have = q_record(page, &file[0..Q::LENGTH], &mut out[0..Q::LENGTH], notes);
     let n = payments(page, file, out, notes, have);
-    bytes::copy(&file[end..all], &mut out[end..all]);
+    out[end..all].copy_from_slice(&file[end..all]);
     n
 }

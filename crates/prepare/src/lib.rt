@@ -44,7 +44,7 @@ fn write(page: u32, file: &[u8], changes: usize, out: &mut [u8], notes: &mut [u3
     ensures noted { Noted (notes_of page file.now) 0 notes.old notes.new result }
 {
     if changes == 0 {
-        bytes::copy(file, out);
+        out[..file.len()].copy_from_slice(file);
         return 0;
     }
     place::file(page, file, out, notes)

@@ -78,7 +78,7 @@ fn hold(held: [u8; 768], have: usize, more: &[u8]) -> [u8; 768]
     ensures { result ≡ put have more.now held }
 {
     let mut room = held;
-    bytes::copy(more, &mut room[have..]);
+    room[have..have + more.len()].copy_from_slice(more);
     room
 }
 

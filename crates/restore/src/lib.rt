@@ -118,7 +118,7 @@ fn write(forwarded: &[u8], notes: &[u32], out: &mut [u8])
     requires { (length forwarded.now ≤ length out.old) × (in_file (length forwarded.now) notes.now ≡ true) }
     ensures { out.new ≡ put 0 (put_notes forwarded.now notes.now) out.old }
 {
-    bytes::copy(forwarded, out);
+    out[..forwarded.len()].copy_from_slice(forwarded);
     put_back(notes, out);
 }
 

@@ -30,7 +30,7 @@ fn fresh_z(z: &[u8], payments: u64, euros: u64, part: &mut [u8])
     requires { (length z.now ≡ 256) × (length part.old ≡ 256) }
     ensures { part.new ≡ fresh_z z.now payments euros }
 {
-    bytes::copy(z, part);
+    part.copy_from_slice(z);
     let z3 = Z::place(ZField::Z3);
     let start = z3.start;
     let end = z3.end;

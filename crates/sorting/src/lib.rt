@@ -15,7 +15,7 @@ use structure::Shape;
 
 // What is kept, and what is returned.
 #[repr(C)]
-#[derive(Drop)]
+#[derive(Clone, Copy)]
 pub struct Shares {
     pub kept: u64,
     pub returned: u64,

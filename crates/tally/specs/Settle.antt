@@ -136,12 +136,6 @@ module _ (page : ℕ) (transfer cheque : List ℕ) (s : Tally) (slot : List ℕ)
       go false true p q = either Steady (eqb (fault_in s.next slot) 0) _ _ (on_q (eqb-true _ _ q)) (same _)
       go false false p q = either Steady (eqb (fault_in s.next slot) 0) _ _ (on_t (eqb-false _ _ p)) (same _)
 
--- what the functions' returns lean on
-pub key_kept : (src dst out slot : List ℕ) → src ≡ key_of slot → length src ≡ 21 → length dst ≡ 21
-    → out ≡ take (length src) src ++ drop (length src) dst → out ≡ key_of slot
-key_kept src dst out slot e p q r =
-    r ∙ rw (drop_of_length-le dst {i = length src} (omega arith), append-nil) (take_all (length src) src (omega arith)) ∙ e
-
 -- record 10,000 never goes on
 pub below_last : (k : ℕ) (slot : List ℕ) {stop : ℕ} → k ≤ 10000 → stop ≡ stop_at k slot → stop ≡ 0 → k < 10000
 below_last k slot h e z = go (eqb k 10000) refl (sym e ∙ z)

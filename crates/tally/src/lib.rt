@@ -100,7 +100,7 @@ fn key_at(k: usize, key: [u8; 21], slot: &[u8]) -> [u8; 21]
         return key;
     }
     let mut first = key;
-    bytes::copy(payments::key(slot), &mut first);
+    first.copy_from_slice(payments::key(slot));
     first
 }
 
