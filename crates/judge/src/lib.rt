@@ -13,7 +13,7 @@ use structure::Shape;
 
 // The first broken rule, its record, and the place there of the field that breaks it; zeros where none is broken.
 #[repr(C)]
-#[derive(Drop)]
+#[derive(Clone, Copy)]
 pub struct Breach {
     pub number: usize,
     pub rec: usize,
@@ -23,7 +23,7 @@ pub struct Breach {
 // The judge's answer. Number 0: sound, with the payments and both sums. Else the broken rule, its record, the place there
 // of the field that breaks it (0 for rules 1 to 5, for 7 and for 50, which no field breaks), and zeros.
 #[repr(C)]
-#[derive(Drop)]
+#[derive(Clone, Copy)]
 pub struct Verdict {
     pub number: usize,
     pub rec: usize,

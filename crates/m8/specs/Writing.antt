@@ -19,7 +19,7 @@ use Rattle.payments.specs.Rules.{in_t}
 use Rattle.forwarding.specs.Put.{put_part}
 use Rattle.forwarding.specs.Between.{between, between_long}
 use Rattle.forwarding.specs.Noted.{Noted, noted_is, noted_length, noted_append}
-use Rattle.place.specs.Placing.{back_as, copied}
+use Rattle.place.specs.Placing.{back_as}
 use Rattle.judge.specs.Records.{joined}
 use Rattle.m8.specs.Record.{amount_of, reference_of, fields, m8_of, formats, together, long}
 
@@ -41,12 +41,8 @@ pub stretched : (w : ℕ) (ys out : List ℕ) (at : ℕ) → length ys ≡ w →
 stretched w ys out at l = record { next_is = omega arith; places_are = put_part at (at + w) ys out (omega arith) (omega arith) }
 
 pub appended : (piece out : List ℕ) (at : ℕ) {ys : List ℕ} → Left (length piece) at out
-    → ys ≡ take (length piece) piece ++ drop (length piece) (between at (at + length piece) out)
-    → Noted piece at out (back_as at (at + length piece) ys out) (at + length piece)
-appended piece out at l e =
-    let wide : length (between at (at + length piece) out) ≡ length piece = omega (arith, between_long at (at + length piece) out l.0) in
-    noted_is (copied piece (between at (at + length piece) out) wide e)
-    (stretched (length piece) _ out at (ap length (copied piece (between at (at + length piece) out) wide e)))
+    → ys ≡ piece → Noted piece at out (back_as at (at + length piece) ys out) (at + length piece)
+appended piece out at l e = noted_is e (stretched (length piece) _ out at (ap length e))
 
 -- the first seven fields, which one function writes
 abbrev pub heading_of : List ℕ → List ℕ
@@ -165,6 +161,5 @@ module _ (t : List ℕ) (l : length t ≡ 768) {s p : Span} (at : s ≡ t_place 
     pub line_fits : length line ≡ 35
     line_fits = ap length is ∙ line_long t l
 
-    pub referred : (page : ℕ) (stretch : List ℕ) {d ys : List ℕ} → length stretch ≡ 35 → d ≡ take (length line) line ++ drop (length line) stretch
-        → ys ≡ text page d → ys ≡ reference_of page t
-    referred page stretch w e r = r ∙ ap (text page) (copied line stretch (omega (arith, line_fits)) e ∙ is)
+    pub referred : (page : ℕ) {d ys : List ℕ} → d ≡ line → ys ≡ text page d → ys ≡ reference_of page t
+    referred page e r = r ∙ ap (text page) (e ∙ is)

@@ -96,11 +96,6 @@ t12_on = record { low = lit≤ tt; some = lit≤ tt; high = lit≤ tt; inside = 
 pub both_notes : (a : ℕ) (rec : List ℕ) → field_notes t_texts a rec ≡ field_notes (texts_from 2 5) a rec ++ field_notes (texts_from 5 10) a rec
 both_notes a rec = notes_more (texts_from 2 5) (texts_from 5 10) a rec
 
--- what a copy into a part of the same length leaves
-module _ (s part : List ℕ) {d : List ℕ} (l : length part ≡ length s) (e : d ≡ take (length s) s ++ drop (length s) part) where
-  pub copied : d ≡ s
-  copied = e ∙ ap₂ ◌++◌ (take-length s) (over part (length s) (omega arith)) ∙ append-nil s
-
 -- the T records before place `at` are placed
 pub record Placed (page : ℕ) (file out out' : List ℕ) (at : ℕ) : Type 0 where
   pub begins : Begins file at
@@ -162,13 +157,10 @@ module _ (page : ℕ) (file out : List ℕ) (sized : Sized file) (room : length 
       pub same_t : length out₂ ≡ length out
       same_t = sent_same page file out room 0 (z_at file) (omega arith) (omega arith) after_t
 
-      pub place_z : (d : List ℕ) → d ≡ take (length (z_part file file)) (z_part file file) ++ drop (length (z_part file file)) (z_part file out₂)
-          → back_as (z_at file) (length file) d out₂ ≡ put 0 (forwarded page file) out
+      pub place_z : (d : List ℕ) → d ≡ z_part file file → back_as (z_at file) (length file) d out₂ ≡ put 0 (forwarded page file) out
       place_z d e =
-          let here = between_long (z_at file) (length file) file (omega arith) in
-          let there = between_long (z_at file) (length file) out₂ (omega (arith, same_t)) in
           let all : d ≡ drop (z_at file) file =
-          copied (z_part file file) (z_part file out₂) (omega (arith, here, there)) e
+          e
           ∙ take_all (length file - z_at file) (drop (z_at file) file) (omega (arith, length-drop (z_at file) file)) in
           sent_all page file out room (z_at file) (omega (arith, sized.long)) after_t
           (put_part (z_at file) (length file) d out₂ (omega arith) (ap length all ∙ length-drop (z_at file) file)

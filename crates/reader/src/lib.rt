@@ -14,14 +14,14 @@ use tally::Tally;
 
 // The judge's answer, and how many characters the table changes in a sound file.
 #[repr(C)]
-#[derive(Drop)]
+#[derive(Clone, Copy)]
 pub struct Answer {
     pub verdict: Verdict,
     pub changes: usize,
 }
 
 #[repr(C)]
-#[derive(Drop)]
+#[derive(Clone, Copy)]
 pub struct Reader {
     pub page: u32,
     // 0 while cuts may come; from the first end on, another number.

@@ -11,7 +11,7 @@ ghost use Rattle.tally.specs.Conclude.{at_z, conclude_of};
 use judge::{Breach, Verdict};
 
 #[repr(C)]
-#[derive(Drop)]
+#[derive(Clone, Copy)]
 pub struct Tally {
     // How many records were whole: the number of the one that comes next.
     pub next: usize,
