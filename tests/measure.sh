@@ -6,7 +6,7 @@ by_steps=GLIBC_TUNABLES=glibc.cpu.x86_rep_movsb_threshold=100000000:glibc.cpu.x8
 
 # prove REPOSITORY CRATE: its static library, of which each call is proved
 prove() {
-    (cd "$1/crates/$2" && rt lib)
+    (cd "$1/crates/$2" && rt lib --cpu x86-64) # as hosts/library does
 }
 
 # program REPOSITORY CRATE NAME WORD..: NAME, of these sources, by these flags, over that static library
