@@ -53,7 +53,7 @@ fn sources() {
     let program = include_str!("../crates/report/src/lib.rt");
     assert_eq!((given(program, "const ANNEX_II:"), given(program, "const ANNEX_I:")), due);
     let proved = include_str!("../crates/report/specs/Annexes.antt");
-    assert_eq!((given(proved, "\nannexII ="), given(proved, "\nannexI =")), due);
+    assert_eq!((given(proved, "\nannex_ii ="), given(proved, "\nannex_i =")), due);
     let compared = include_str!("sample.c");
     assert_eq!((given(compared, " annex_ii["), given(compared, " annex_i[")), due);
 }

@@ -13,7 +13,7 @@
 #include <string.h>
 
 #include "fast.h"
-#include "native.h"
+#include "desk.h"
 #include "plain.h"
 #include "sample.h"
 #include "timing.h"

@@ -487,7 +487,7 @@ obeying() {
 # obedient_host WORD..: such a host, run in the folder
 obedient_host() (
     cd $folder
-    obeying "${run[@]}" "$root/target/tests/$program" "$@"
+    obeying "$root/target/tests/$program" "$@"
 )
 
 # What it cannot read or write by permissions; those of a book stay.

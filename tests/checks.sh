@@ -87,7 +87,7 @@ without_input() {
 }
 
 # peak FILE COMMAND..: the most memory in kB that the command had when all of the file was written to its standard input.
-# What a pipe holds may be unread then. On a machine with the emulator it is the emulator's memory, the command's included.
+# What a pipe holds may be unread then.
 peak() {
     local pipe=target/tests/pipe reader
     rm -f $pipe

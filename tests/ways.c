@@ -6,7 +6,7 @@
 #include <stdlib.h>
 #include <string.h>
 
-#include "native.h"
+#include "desk.h"
 #include "sample.h"
 #include "timing.h"
 

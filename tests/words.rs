@@ -80,7 +80,7 @@ fn kinds() {
 /// The fields as crates/records places them.
 fn places() -> Vec<Columns> {
     let rows = include_str!("../crates/records/specs/Places.antt").lines().filter_map(|row| {
-        let (field, place) = row.split_once("Place ")?.1.split_once(" = ")?;
+        let (field, place) = row.split_once("_place ")?.1.split_once(" = ")?;
         let (first, last) = place.split_once(" to ")?;
         let column = |offset: &str| offset.parse::<u64>().unwrap() + 1;
         Some(Columns { field, first: column(first), last: column(last) })

@@ -1,4 +1,4 @@
-// The calls for hosts in C. Lent slices pass as pointer and count.
+// The calls for hosts. The crate host_c hands them to C.
 #![tactic(auto)]
 
 ghost use Rattle.judge.specs.Verdict.{JudgedAs};
@@ -19,8 +19,7 @@ use restore::Restored;
 use sorting::Sorted;
 
 // The judge of document 01 for payroll hosts: page 0, no taken numbers, record × 100 + number.
-#[unsafe(no_mangle)]
-pub extern "C" fn desk_judge(file: &[u8], transfer: &[u8], cheque: &[u8]) -> usize
+pub fn desk_judge(file: &[u8], transfer: &[u8], cheque: &[u8]) -> usize
     ensures { CodedAs file.now transfer.now cheque.now result }
 {
     let none = [0u64; 1];
@@ -28,8 +27,7 @@ pub extern "C" fn desk_judge(file: &[u8], transfer: &[u8], cheque: &[u8]) -> usi
     found.rec * 100 + found.number
 }
 
-#[unsafe(no_mangle)]
-pub extern "C" fn desk_judge_full(
+pub fn desk_judge_full(
     page: u32,
     file: &[u8],
     transfer: &[u8],
@@ -42,34 +40,25 @@ pub extern "C" fn desk_judge_full(
 }
 
 // A reader is a value: it is handed in, and comes back changed.
-#[unsafe(no_mangle)]
-pub extern "C" fn desk_reader_new(page: u32) -> Reader
+pub fn desk_reader_new(page: u32) -> Reader
     ensures { NewAs page result }
 {
     Reader::new(page)
 }
 
-#[unsafe(no_mangle)]
-pub extern "C" fn desk_reader_feed(
-    reader: Reader,
-    cut: &[u8],
-    transfer: &[u8],
-    cheque: &[u8],
-) -> Reader
+pub fn desk_reader_feed(reader: Reader, cut: &[u8], transfer: &[u8], cheque: &[u8]) -> Reader
     ensures { FedAs reader cut.now transfer.now cheque.now result }
 {
     reader.feed(cut, transfer, cheque)
 }
 
-#[unsafe(no_mangle)]
-pub extern "C" fn desk_reader_end(reader: Reader, taken: &[u64]) -> Read
+pub fn desk_reader_end(reader: Reader, taken: &[u64]) -> Read
     ensures { EndedAs reader taken.now result }
 {
     reader.end(taken)
 }
 
-#[unsafe(no_mangle)]
-pub extern "C" fn desk_prepare(
+pub fn desk_prepare(
     page: u32,
     file: &[u8],
     transfer: &[u8],
@@ -83,8 +72,7 @@ pub extern "C" fn desk_prepare(
     prepare::prepare(page, file, transfer, cheque, out, notes, returned)
 }
 
-#[unsafe(no_mangle)]
-pub extern "C" fn desk_prepare_strict(
+pub fn desk_prepare_strict(
     page: u32,
     file: &[u8],
     transfer: &[u8],
@@ -97,8 +85,7 @@ pub extern "C" fn desk_prepare_strict(
     prepare::strict(page, file, transfer, cheque, out, notes)
 }
 
-#[unsafe(no_mangle)]
-pub extern "C" fn desk_m8(
+pub fn desk_m8(
     page: u32,
     file: &[u8],
     transfer: &[u8],
@@ -111,8 +98,7 @@ pub extern "C" fn desk_m8(
     m8::records(page, file, transfer, cheque, codes, out)
 }
 
-#[unsafe(no_mangle)]
-pub extern "C" fn desk_restore(
+pub fn desk_restore(
     page: u32,
     forwarded: &[u8],
     notes: &[u32],
@@ -133,8 +119,7 @@ pub struct Part {
     pub length: usize,
 }
 
-#[unsafe(no_mangle)]
-pub extern "C" fn desk_show(file: &[u8], rec: usize, field: usize) -> Part
+pub fn desk_show(file: &[u8], rec: usize, field: usize) -> Part
     ensures { PlacedAs file.now rec field result }
 {
     let s = show::place(file, rec, field);
@@ -146,28 +131,19 @@ pub extern "C" fn desk_show(file: &[u8], rec: usize, field: usize) -> Part
 }
 
 // A book is a value too.
-#[unsafe(no_mangle)]
-pub extern "C" fn desk_book_new() -> Book
+pub fn desk_book_new() -> Book
     ensures { NewBookAs result }
 {
     Book::new()
 }
 
-#[unsafe(no_mangle)]
-pub extern "C" fn desk_book_take(
-    book: Book,
-    number: u64,
-    day: u32,
-    payments: u64,
-    euros: u64,
-) -> Taken
+pub fn desk_book_take(book: Book, number: u64, day: u32, payments: u64, euros: u64) -> Taken
     ensures { TakenAs book (entry_of number day payments euros) result }
 {
     book.take(number, day, payments, euros)
 }
 
-#[unsafe(no_mangle)]
-pub extern "C" fn desk_book_totals(book: Book) -> Totals
+pub fn desk_book_totals(book: Book) -> Totals
     ensures { TotalsAs book result }
 {
     book.totals()
