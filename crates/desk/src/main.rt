@@ -9,6 +9,7 @@ use reader::Reader;
 use report::Report;
 use std::io;
 use std::io::Read;
+use std::process::ExitCode;
 
 // A reader after a read, how many bytes that brought, and the error that it answered, if any.
 #[derive(Drop)]
@@ -93,11 +94,15 @@ fn print_report(rt: &impl Print, r: Report) -> io::Result<()> {
     print_line(rt, "changes", r.changes as u64)
 }
 
-fn main(rt: HostRuntime) -> io::Result<()> {
+fn main(rt: HostRuntime) -> io::Result<ExitCode> {
     let mut room = [0u8; 65536];
     let input = read_input(&mut rt.stdin(), &mut room);
     if let Some(e) = input.error {
-        return eprintln!(rt; "desk: standard input cannot be read: {e}");
+        let told = format!(in rt.alloc(); "{e}")?;
+        let why = told.split(" (os error ").next().unwrap_or("");
+        eprintln!(rt; "desk: standard input cannot be read: {why}")?;
+        return Ok(ExitCode::FAILURE);
     }
-    print_report(&rt, report::tell(input.reader))
+    print_report(&rt, report::tell(input.reader))?;
+    Ok(ExitCode::SUCCESS)
 }

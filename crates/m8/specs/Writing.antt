@@ -1,5 +1,5 @@
 -- Writing a record: piece behind piece. And how long its fields are.
-use Rattle.std.specs.Prelude.{ℕ, ◌+◌, ◌-◌, ◌≤◌, ◌≡◌, take, drop}
+use Rattle.std.specs.Prelude.{ℕ, ◌+◌, ◌-◌, ◌≤◌, ◌≡◌, take}
 use Rattle.std.proofs.Math.Path.{refl, ap}
 use Rattle.std.proofs.Common.{sym, ◌∙◌, arith, lit≤, length-append}
 use mathlib.Core.List.{List, [], ◌∷◌, ◌++◌, map, append_assoc}
@@ -17,7 +17,6 @@ use Rattle.records.specs.declared.TField.TheVariants.{T14a, T14b, T15}
 use Rattle.rules.specs.Q.{in_q}
 use Rattle.payments.specs.Rules.{in_t}
 use Rattle.forwarding.specs.Put.{put_part}
-use Rattle.forwarding.specs.Between.{between, between_long}
 use Rattle.forwarding.specs.Noted.{Noted, noted_is, noted_length, noted_append}
 use Rattle.place.specs.Placing.{back_as}
 use Rattle.judge.specs.Records.{joined}

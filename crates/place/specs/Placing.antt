@@ -1,10 +1,8 @@
 -- The turns of placing: a field replaced where it stands, a record at its place.
 use Rattle.std.specs.Prelude.{ℕ, ◌+◌, ◌-◌, ◌≤◌, ◌<◌, ◌≡◌, refl, true, List, [], ◌∷◌, ◌++◌, take, drop}
 use Rattle.std.proofs.Math.Path.{sym, ap}
-use Rattle.std.proofs.Common.{ap₂, ◌∙◌, append-nil, append_assoc, arith, lit≤, length-append, take_all}
+use Rattle.std.proofs.Common.{◌∙◌, append-nil, append_assoc, arith, lit≤, length-append, take_all}
 use Rattle.std.proofs.Math.ListN.{length, length-drop}
-use Rattle.std.proofs.Math.Seq.{take-length}
-use Rattle.laws.specs.Steps.{over}
 use Rattle.charset.specs.Table.{rep}
 use Rattle.records.specs.Places.{part, t_text}
 use Rattle.records.specs.declared.Span.{Span}

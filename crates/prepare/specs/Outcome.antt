@@ -1,6 +1,6 @@
 -- The promise by what the code found: a refusal, which writes nothing, or success.
-use Rattle.std.specs.Prelude.{ℕ, ◌+◌, ◌-◌, ◌/◌, ◌≤◌, ◌<◌, ◌≡◌, refl, Bool, true, false, not, List, ◌++◌, take, drop}
-use Rattle.std.proofs.Common.{sym, ◌∙◌, arith, take_all}
+use Rattle.std.specs.Prelude.{ℕ, ◌+◌, ◌-◌, ◌/◌, ◌≤◌, ◌<◌, ◌≡◌, refl, Bool, true, false, not, List, ◌++◌, drop}
+use Rattle.std.proofs.Common.{sym, ◌∙◌, arith}
 use Rattle.std.proofs.Math.Path.{ap}
 use Rattle.std.proofs.Math.ListN.{length}
 use Rattle.laws.specs.Choice.{on_lt, off_lt, on_eq, off_eq, on_not, off_not}

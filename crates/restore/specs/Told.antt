@@ -1,9 +1,8 @@
 -- The answer and the output by what the call found: the page, the room, the verdict, what is left to replace, and the notes.
-use Rattle.std.specs.Prelude.{ℕ, ◌+◌, ◌≤◌, ◌<◌, ◌≡◌, refl, Bool, true, false, not, ◌&&◌, List, [], ◌++◌, eqb, length, take, drop}
+use Rattle.std.specs.Prelude.{ℕ, ◌+◌, ◌≤◌, ◌<◌, ◌≡◌, refl, Bool, true, false, not, ◌&&◌, List, [], ◌++◌, eqb, length, drop}
 use Rattle.std.proofs.Math.Path.{sym, ap}
 use Rattle.std.proofs.Common.{◌∙◌, arith, eq-eqb, ne_eqb, length-append}
 use Rattle.std.proofs.lemmas.Bool.{not-true, not-false}
-use Rattle.std.proofs.Math.Seq.{take-length}
 use Rattle.laws.specs.Choice.{on, off, off_eq, on_lt, off_lt, on_not, off_not, both}
 use Rattle.charset.specs.Table.{is_page, rep, rep_rep}
 use Rattle.judge.specs.Verdict.{verdict_of}

@@ -1,6 +1,6 @@
 -- Going over a file's T records: after the first of them, us, the kept ones of us stand in the output as in the kept file,
 -- their notes in the note places, and the others are named.
-use Rattle.std.specs.Prelude.{ℕ, suc, ◌+◌, ◌*◌, ◌-◌, ◌≤◌, ◌<◌, ◌≡◌, refl, Bool, true, false, cond, List, [], ◌∷◌, ◌++◌, eqb, length}
+use Rattle.std.specs.Prelude.{ℕ, suc, ◌+◌, ◌*◌, ◌≤◌, ◌<◌, ◌≡◌, refl, Bool, true, false, cond, List, [], ◌∷◌, ◌++◌, eqb, length}
 use Rattle.std.proofs.Common.{sym, ap, ap₂, subst, ◌∙◌, arith, eqb-true, eq-eqb, ne_eqb, length-append}
 use Rattle.std.proofs.lemmas.Bool.{eqb-false}
 use Rattle.charset.specs.Table.{rep}

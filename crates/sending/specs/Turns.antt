@@ -1,5 +1,5 @@
 -- The turns of sending: a T record that is placed and noted, or named.
-use Rattle.std.specs.Prelude.{ℕ, ◌+◌, ◌*◌, ◌-◌, ◌≤◌, ◌<◌, ◌≡◌, refl, cond, List, [], ◌∷◌, eqb, length, set}
+use Rattle.std.specs.Prelude.{ℕ, ◌+◌, ◌*◌, ◌≤◌, ◌<◌, ◌≡◌, refl, cond, List, [], ◌∷◌, eqb, length, set}
 use Rattle.std.proofs.Common.{ap, eq-eqb, ne_eqb}
 use Rattle.laws.specs.Choice.{on_eq, off_eq}
 use Rattle.charset.specs.Table.{rep}

@@ -1,7 +1,7 @@
 -- What the whole records of a file have shown so far, as one more is added.
-use Rattle.std.specs.Prelude.{ℕ, ◌+◌, ◌*◌, ◌-◌, ◌≤◌, ◌<◌, ◌≡◌, Bool, true, false, ◌&&◌, cond, List, ◌++◌, eqb, leb, ltb, length, take, drop, replicate}
+use Rattle.std.specs.Prelude.{ℕ, ◌+◌, ◌*◌, ◌≤◌, ◌<◌, ◌≡◌, Bool, true, false, ◌&&◌, cond, List, eqb, leb, ltb, replicate}
 use Rattle.std.proofs.Math.Path.{refl}
-use Rattle.std.proofs.Common.{sym, ap, ◌∙◌, append-nil, arith, eqb-true, leb-true, ltb-false, le-leb, lit≤, drop_of_length-le, take_all}
+use Rattle.std.proofs.Common.{sym, ap, ◌∙◌, arith, eqb-true, leb-true, ltb-false, le-leb, lit≤}
 use Rattle.std.proofs.lemmas.Bool.{false≢true, eqb-false}
 use Rattle.laws.specs.Choice.{either, on_eq, off_eq, off_lt}
 use Rattle.payments.specs.Rules.{key_of}

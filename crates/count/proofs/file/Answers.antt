@@ -1,5 +1,4 @@
 use native.Mathlib.Omega.{arith}
-use Prim.Native.Nat.{◌-◌}
 use Rattle.forwarding.specs.Between.{between_long}
 use Rattle.forwarding.specs.Sized.{fits, rec_long}
 use Rattle.count.specs.Counting.{count_first, count_next, count_few, count_all}

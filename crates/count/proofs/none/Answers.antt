@@ -1,4 +1,3 @@
-use Prim.Native.Nat.{◌-◌}
 use mathlib.Core.Bool.{true}
 use Rattle.laws.specs.Steps.{fold_on, fold_over}
 use Rattle.forwarding.specs.Changes.{kept, none_fold}

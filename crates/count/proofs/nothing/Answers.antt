@@ -1,6 +1,5 @@
 use borrow.Author.Tests.{eqb-true, eqb-false, eq-eqb}
 use native.Mathlib.Omega.{arith}
-use Prim.Native.Nat.{◌-◌}
 use mathlib.Core.Path.{sym, ◌∙◌}
 use Rattle.forwarding.specs.Between.{between_long}
 use Rattle.forwarding.specs.Sized.{fits, rec_long}

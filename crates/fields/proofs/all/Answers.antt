@@ -1,5 +1,4 @@
 use mathlib.Core.Bool.{true}
-use Prim.Native.Nat.{◌-◌}
 use Rattle.laws.specs.Steps.{fold_on, fold_over}
 use Rattle.fields.specs.Class.{member, all_of}
 use Rattle.fields.specs.Laws.{every_fold}

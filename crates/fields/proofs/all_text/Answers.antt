@@ -1,4 +1,3 @@
-use Prim.Native.Nat.{◌-◌}
 use Rattle.laws.specs.Steps.{over}
 use Rattle.fields.specs.Class.{all_of}
 use Rattle.fields.specs.Laws.{text_turn}

@@ -1,6 +1,6 @@
 use Prim.Native.Nat.{◌-◌, ◌≤◌}
 use mathlib.Core.Path.{◌≡◌}
-use Rattle.judge.specs.Sums.{euros, cents, euro_sum, cent_sum}
+use Rattle.judge.specs.Sums.{euro_sum, cent_sum}
 use Rattle.judge.proofs.sum.Given as goal
 
 -- The sums so far are those of the first k payments.

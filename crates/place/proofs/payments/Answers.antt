@@ -1,5 +1,5 @@
 use native.Mathlib.Omega.{arith}
-use Prim.Native.Nat.{◌+◌, ◌-◌}
+use Prim.Native.Nat.{◌+◌}
 use Rattle.forwarding.specs.Between.{between_long}
 use Rattle.forwarding.specs.Sized.{fits, rec_long}
 use Rattle.note.specs.Noting.{note_first, note_room, note_next, note_same, note_last}

@@ -1,4 +1,3 @@
-use mathlib.Core.Path.{sym, ◌∙◌}
 use Rattle.place.proofs.t_record.Goals as goal
 
 pub t_fields-requires : goal.t_fields-requires

@@ -1,5 +1,4 @@
 use mathlib.Core.Path.{refl}
-use Prim.Native.Nat.{◌-◌}
 use Rattle.laws.specs.Scan.{run, from}
 use Rattle.restore.specs.Found.{any_on, any_over}
 use Rattle.restore.proofs.in_text.Invariants.{hits}

@@ -1,5 +1,4 @@
 use native.Mathlib.Omega.{arith}
-use Prim.Native.Nat.{◌-◌}
 use Rattle.laws.specs.Steps.{over}
 use Rattle.restore.specs.Found.{notes_stop, notes_on}
 use mathlib.Core.Bool.{not}

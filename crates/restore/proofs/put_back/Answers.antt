@@ -1,7 +1,5 @@
 use native.Mathlib.Omega.{arith}
 use mathlib.Core.Path.{refl}
-use mathlib.Core.Bool.{true}
-use Prim.Native.Nat.{◌-◌}
 use lib.ListN.{length, length-set}
 use Rattle.laws.specs.Steps.{fold_on, fold_over}
 use Rattle.restore.specs.ByNotes.{inside_next, put_note}

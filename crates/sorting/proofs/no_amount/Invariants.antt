@@ -1,7 +1,6 @@
 use Prim.Native.Nat.{ℕ, ◌+◌, ◌-◌, ◌≤◌}
 use mathlib.Core.Path.{◌≡◌}
 use mathlib.Core.Bool.{not}
-use Rattle.laws.specs.Choice.{on}
 use Rattle.laws.specs.Scan.{first}
 use Rattle.structure.specs.Slots.{slot_at}
 use Rattle.sorting.specs.Sorted.{in_digits, no_amount}

@@ -4,8 +4,6 @@ use mathlib.Core.List.{List}
 use lib.ListN.{length}
 use Rattle.laws.specs.Scan.{first}
 use Rattle.structure.specs.Walk.{stops, told}
-use Rattle.structure.specs.Whole.{whole}
-use Rattle.structure.specs.Turns.{passed}
 use Rattle.structure.specs.declared.Shape.{Shape}
 use Rattle.structure.specs.declared.Shape.TheVariants.{Refused}
 use Rattle.structure.proofs.walk.Given as goal

@@ -1,5 +1,3 @@
-use borrow.Author.Rules.{rules}
-use native.Mathlib.Omega.{arith}
 use mathlib.Core.Path.{refl, ◌∙◌}
 use Rattle.laws.specs.Choice.{on_eq, off_eq}
 use Rattle.tally.proofs.key_at.Goals as goal

@@ -1,4 +1,4 @@
-use Rattle.std.proofs.Common.{◌≡◌, ◌-◌, min, Bool, ◌||◌, eqb, length, get_or, refl, ap, ◌∙◌, arith, rules}
+use Rattle.std.proofs.Common.{◌≡◌, min, Bool, ◌||◌, eqb, length, get_or, refl, ap, ◌∙◌, arith, rules}
 use Rattle.book.specs.Model.{holds}
 use Rattle.book.specs.Kept.{entry_of}
 use Rattle.book.specs.Laws.{unmapped, holds_next, filled}

@@ -1,5 +1,4 @@
 use Rattle.std.proofs.Common.{◌≡◌, length, sym, ◌∙◌, rules}
-use Rattle.book.specs.declared.Entry.{Entry}
 use Rattle.book.specs.Kept.{entry_of}
 use Rattle.book.specs.Laws.{unmapped, too_large, too_early, is_held, is_full, has_room, tells_taken}
 use Rattle.book.proofs.Book.take.Goals as goal
