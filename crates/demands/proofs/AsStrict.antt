@@ -33,9 +33,9 @@ use Rattle.sorting.specs.Kept.{returned, records_by, t_records, rule_in, kept_in
 use Rattle.sorting.specs.Sorted.{unsorted, goes_on, no_amount, rule_at, sort_by, sort_of}
 use Rattle.sorting.specs.Lists.{counts_add, named_count, kept_all}
 use Rattle.sorting.specs.Frame.{fit, records_count}
-use Rattle.sorting.specs.Whole.{amount_digits, slot_is}
-use Rattle.sorting.specs.Outcome.{finds_none, holds_none}
-use Rattle.sorting.specs.Goes.{GoesOn, goes, kept_sound, kept_whole_file}
+use Rattle.sorting.proofs.WholeFile.{amount_digits, slot_is}
+use Rattle.sorting.proofs.Outcome.{finds_none, holds_none}
+use Rattle.sorting.proofs.Goes.{GoesOn, goes, kept_sound, kept_whole_file}
 use Rattle.sorting.specs.declared.Sorted.{Sorted}
 use Rattle.prepare.specs.Prepared.{not_prepared, done, send_of, prepare_by, prepare_of}
 use Rattle.prepare.specs.Default.{default_by, default_of}

@@ -26,8 +26,8 @@ use Rattle.sorting.specs.Kept.{kept, t_records, rule_in, kept_in, named_in, kept
 use Rattle.sorting.specs.Sorted.{unsorted, goes_on, in_digits, no_amount, rule_at, behind_q, sort_by, sort_of}
 use Rattle.sorting.specs.Lists.{front_kept, named_count, kept_from}
 use Rattle.sorting.specs.Frame.{records_count}
-use Rattle.sorting.specs.Whole.{slot_is}
-use Rattle.sorting.specs.Outcome.{finds_none}
+use Rattle.sorting.proofs.WholeFile.{slot_is}
+use Rattle.sorting.proofs.Outcome.{finds_none}
 use Rattle.sorting.specs.declared.Sorted.{Sorted}
 use Rattle.prepare.specs.Default.{default_by, default_of}
 use Rattle.demands.specs.Sorting.{BrokenFirst, NoneOf, BreaksNone, q_says, z_says, FirstSpoiled, AllDigits, Proper, Sorts, Goes, DueAnswer, DefaultRefuses}

@@ -15,9 +15,9 @@ use Rattle.structure.specs.Walk.{structure_of}
 use Rattle.structure.specs.declared.Shape.TheVariants.{Fits}
 use Rattle.judge.specs.Apart.{slots_from, slots_count}
 use Rattle.sorting.specs.Kept.{first_of, returned, named, rule_in, named_in}
-use Rattle.sorting.specs.Sound.{first_below}
+use Rattle.sorting.proofs.Sound.{first_below}
 use Rattle.sorting.specs.Frame.{records_are}
-use Rattle.sorting.specs.Outcome.{finds_none}
+use Rattle.sorting.proofs.Outcome.{finds_none}
 use Rattle.demands.specs.Sorting.{BrokenFirst, NoneOf, t_says, BreaksFirst, BreaksNone, Names, NamesAre, NamesAreOne}
 use Rattle.demands.proofs.Alone.{one_number, same_rising}
 

@@ -24,9 +24,9 @@ use Rattle.reader.specs.declared.Reader.{Reader}
 use Rattle.reader.specs.declared.Read.{Read}
 use Rattle.reader.specs.Cuts.{Cut, joined, LentWith, read_fault, read_content, read_by, read_verdict, read_judged, reading_of}
 use Rattle.reader.specs.State.{answered, new_of, ended_by, found_of, read_of, fed_of, end_of}
-use Rattle.reader.specs.Reading.{fed_all_is, fed_all}
-use Rattle.reader.specs.Answers.{end_is}
-use Rattle.reader.specs.OnePair.{judged_with}
+use Rattle.reader.proofs.Reading.{fed_all_is, fed_all}
+use Rattle.reader.proofs.Answers.{end_is}
+use Rattle.reader.proofs.OnePair.{judged_with}
 use Rattle.demands.specs.Demand1.{FileRule, ContentRule, ReadNumbers}
 use Rattle.demands.specs.Reading.{Reading, AsJudged, ReadAnswers, ReadsAsJudged, CutsAlike, EndsOnce, EndIsLast, ReadPage, ReadTooLong}
 use Rattle.demands.proofs.Pages.{page_is_there, one_answer, never_7}

@@ -32,8 +32,8 @@ use Rattle.sorting.specs.Kept.{kept, digits, fresh_z, records_by, t_records, rul
 use Rattle.sorting.specs.Sorted.{unsorted, goes_on, no_amount, rule_at, behind_q, sort_by, sort_of}
 use Rattle.sorting.specs.Lists.{named_count, counts_add, sums_add}
 use Rattle.sorting.specs.Frame.{fit, lengths, file_is, z_of, kept_lengths}
-use Rattle.sorting.specs.Whole.{z_slot}
-use Rattle.sorting.specs.Goes.{GoesOn, goes, z_is_right, kept_sound}
+use Rattle.sorting.proofs.WholeFile.{z_slot}
+use Rattle.sorting.proofs.Goes.{GoesOn, goes, z_is_right, kept_sound}
 use Rattle.sorting.specs.declared.Sorted.{Sorted}
 use Rattle.prepare.specs.Prepared.{not_prepared, done, send_of, prepare_of, PreparedAs}
 use Rattle.prepare.specs.Default.{default_by, default_of, left_by, DefaultAs}

@@ -3,7 +3,7 @@
 use Rattle.std.specs.Prelude.{ℕ, refl, List, [], ◌∷◌, ◌++◌}
 use Rattle.reader.specs.declared.Reader.{Reader}
 use Rattle.reader.specs.Cuts.{Cut}
-use Rattle.reader.specs.Reading.{fed_more, lent_more}
+use Rattle.reader.proofs.Reading.{fed_more, lent_more}
 use Rattle.report.specs.Annexes.{annex_i, annex_ii}
 use Rattle.report.specs.Report.{StartedAs, ReadOnAs, HasRead}
 

@@ -10,7 +10,7 @@ use Rattle.charset.specs.Table.{text}
 use Rattle.records.specs.Places.{part}
 use Rattle.judge.specs.Records.{joined}
 use Rattle.m8.specs.Record.{fields, m8_of, formats, code_of}
-use Rattle.m8.specs.Writing.{fields_long, m8_long}
+use Rattle.m8.proofs.Writing.{fields_long, m8_long}
 use Rattle.m8.specs.Course.{code_long}
 use Rattle.filing.specs.Filing.{OfPayment, m8s}
 

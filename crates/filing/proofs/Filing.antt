@@ -25,14 +25,15 @@ use Rattle.forwarding.specs.Forwarded.{notes_of}
 use Rattle.forwarding.specs.Put.{put}
 use Rattle.sorting.specs.Kept.{t_records, rule_in, returned_in, named_in, kept_file}
 use Rattle.sorting.specs.Sorted.{unsorted, sort_by, sort_of}
-use Rattle.sorting.specs.Sound.{first_below}
+use Rattle.sorting.proofs.Sound.{first_below}
 use Rattle.sorting.specs.Lists.{named_count}
 use Rattle.sorting.specs.Frame.{records_are, records_count, lengths, q_found, t_found}
-use Rattle.sorting.specs.Goes.{GoesOn, goes, sortable}
+use Rattle.sorting.proofs.Goes.{GoesOn, goes, sortable}
 use Rattle.sorting.specs.declared.Sorted.{Sorted}
 use Rattle.prepare.specs.Default.{default_of, DefaultAs}
 use Rattle.m8.specs.Filed.{record_in, records_of, not_filed, filed, filed_by, filed_of, FiledAs}
-use Rattle.m8.specs.Course.{code_long, record_long, ones_long, all_filed}
+use Rattle.m8.specs.Course.{code_long, ones_long}
+use Rattle.m8.proofs.Course.{record_long, all_filed}
 use Rattle.m8.specs.declared.Filed.{Filed}
 use Rattle.demands.specs.Sorting.{RefusingRule}
 use Rattle.demands.proofs.Pages.{page_is_there, no_page}

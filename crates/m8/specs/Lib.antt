@@ -2,4 +2,3 @@ pub mod Record
 pub mod Filed
 pub mod Writing
 pub mod Course
-pub mod Outcome

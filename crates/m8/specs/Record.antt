@@ -46,8 +46,8 @@ abbrev pub together : List ℕ → ℕ
 together [] = 0
 together (n ∷ ns) = n + together ns
 
--- "one record of 124 bytes": the widths make 124. That the fields have these widths is Writing `fields_long`, and that a whole
--- record has 124 bytes `m8_long`
+-- "one record of 124 bytes": the widths make 124. That the fields have these widths is proofs/Writing `fields_long`, and that
+-- a whole record has 124 bytes `m8_long`
 pub long : together formats ≡ 124
 long = refl
 

@@ -20,10 +20,10 @@ use Rattle.forwarding.specs.Put.{put_part}
 use Rattle.forwarding.specs.Noted.{Noted, noted_is, noted_length, noted_append}
 use Rattle.place.specs.Placing.{back_as}
 use Rattle.judge.specs.Records.{joined}
-use Rattle.m8.specs.Record.{amount_of, reference_of, fields, m8_of, formats, together, long}
+use Rattle.m8.specs.Record.{amount_of, reference_of, m8_of, together}
 
 -- pieces that are joined
-joined_long : (xs : List (List ℕ)) → length (joined xs) ≡ together (map length xs)
+pub joined_long : (xs : List (List ℕ)) → length (joined xs) ≡ together (map length xs)
 joined_long [] = refl
 joined_long (x ∷ xs) = length-append x (joined xs) ∙ ap (λ (n : ℕ). length x + n) (joined_long xs)
 
@@ -75,7 +75,7 @@ module _ {at : ℕ} {out : List ℕ} where
       (λ r. behind 16 2 (omega (arith, euros.long, ap length euros.bytes)) r (noted_is euros.bytes v) (λ r. noted_is (ap (take 2) cents.bytes) w))
 
 -- how long the fields are
-q_long : (f : QField) (q : List ℕ) → length q ≡ 256 → length (in_q f q) ≡ (q_place f).end - (q_place f).start
+pub q_long : (f : QField) (q : List ℕ) → length q ≡ 256 → length (in_q f q) ≡ (q_place f).end - (q_place f).start
 q_long f q l = (held (q_place f) q refl (q_inside f) l).long
 
 t_long : (f : TField) (t : List ℕ) → length t ≡ 768 → length (in_t f t) ≡ (t_place f).end - (t_place f).start
@@ -99,17 +99,8 @@ line_long t l = (held {n = 768} line_in t refl (lit≤ tt, lit≤ tt) l).long
 pub reference_long : (page : ℕ) (t : List ℕ) → length t ≡ 768 → length (reference_of page t) ≡ 35
 reference_long page t l = length-map (part line_in t) (rep page) ∙ line_long t l
 
--- all of them, and a whole record
+-- a whole record
 module _ (page : ℕ) (q reason t : List ℕ) (lq : length q ≡ 256) (lt : length t ≡ 768) (lc : length reason ≡ 6) where
-  pub fields_long : map length (fields page q reason t) ≡ formats
-  fields_long =
-      let number : length (zeros 3 ++ in_q Q7 q) ≡ 5 = simp (length-append) (omega (arith, q_long Q7 q lq)) in
-      λ i. 1 ∷ 2 ∷ q_long Q6 q lq i ∷ number i ∷ 7 ∷ 16 ∷ 1 ∷ amount_long t lt i ∷ lc i ∷ reference_long page t lt i ∷ 27 ∷ []
-
-  pub m8_long : length (m8_of page q reason t) ≡ 124
-  unfolding m8_of
-  m8_long = joined_long (fields page q reason t) ∙ ap together fields_long ∙ long
-
   -- in the pieces of the functions
   whole : heading_of q ++ (amount_of t ++ (reason ++ (reference_of page t ++ spaces 27))) ≡ m8_of page q reason t
   unfolding m8_of

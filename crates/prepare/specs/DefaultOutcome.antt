@@ -13,7 +13,7 @@ use Rattle.sorting.specs.Kept.{t_records, rule_in, kept_in, returned_in, named_i
 use Rattle.sorting.specs.Sorted.{unsorted, goes_on, sort_of}
 use Rattle.sorting.specs.Lists.{counts_add, named_count}
 use Rattle.sorting.specs.Frame.{records_count, z_of, kept_lengths, kept_few}
-use Rattle.sorting.specs.Goes.{GoesOn, goes}
+use Rattle.sorting.proofs.Goes.{GoesOn, goes}
 use Rattle.sorting.specs.declared.Sorted.{Sorted}
 use Rattle.sending.specs.Whole.{CanSend, FileSent}
 use Rattle.prepare.specs.Prepared.{not_prepared, done, send_of}

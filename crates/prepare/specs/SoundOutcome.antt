@@ -17,8 +17,8 @@ use Rattle.sorting.specs.Kept.{t_records, rule_in, returned_in, named_in, kept_f
 use Rattle.sorting.specs.Sorted.{unsorted, sort_of}
 use Rattle.sorting.specs.Lists.{named_count}
 use Rattle.sorting.specs.Counting.{figures_are, going_on}
-use Rattle.sorting.specs.Answers.{told_no_page, told_sound}
-use Rattle.sorting.specs.Goes.{GoesOn, goes, kept_whole_file}
+use Rattle.sorting.proofs.Answers.{told_no_page, told_sound}
+use Rattle.sorting.proofs.Goes.{GoesOn, goes, kept_whole_file}
 use Rattle.sorting.specs.declared.Sorted.{Sorted}
 use Rattle.prepare.specs.Prepared.{not_prepared, done, send_of, SentAs}
 use Rattle.prepare.specs.Default.{or_refused, default_of, left_by, DefaultAs}

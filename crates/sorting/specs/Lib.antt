@@ -3,11 +3,6 @@ pub mod Sorted
 pub mod Digits
 pub mod Fresh
 pub mod Lists
-pub mod Sound
 pub mod Course
 pub mod Frame
 pub mod Counting
-pub mod Outcome
-pub mod Whole
-pub mod Answers
-pub mod Goes

@@ -11,7 +11,7 @@ use Rattle.forwarding.specs.Noted.{noted_none, noted_is}
 use Rattle.sorting.specs.Kept.{first_of}
 use Rattle.sorting.specs.Frame.{fit, found, q_found, t_found}
 use Rattle.m8.specs.Record.{m8_of, code_of}
-use Rattle.m8.specs.Course.{same_room, turn_asked, turn_filed, turns_end}
+use Rattle.m8.proofs.Course.{same_room, turn_asked, turn_filed, turns_end}
 use Rattle.m8.proofs.payments.Goals as goal
 
 pub key-key-requires : goal.key-key-requires

@@ -1,5 +1,5 @@
 use native.Mathlib.Omega.{arith}
-use Rattle.m8.specs.Outcome.{few, sort_refused, table_refused, room_refused, payments_fit, records_filed, none_filed}
+use Rattle.m8.proofs.Outcome.{few, sort_refused, table_refused, room_refused, payments_fit, records_filed, none_filed}
 use Rattle.m8.proofs.records.Goals as goal
 
 pub returns-then-number-ne0 : goal.returns-then-number-ne0

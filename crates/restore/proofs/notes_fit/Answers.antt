@@ -12,10 +12,10 @@ returns-then-not-note_fits c =
     notes_stop a.page a.file.now a.notes.now l.from l.j c.loop-j-test.true c.note_fits.ensures l.invariant (ap not c.if-not-note_fits.true)
 
 pub overflow_cast-from : goal.overflow_cast-from
-overflow_cast-from c = omega (arith, c.shared_slice_known-in-loop-j-1.given c.loop-j.j)
+overflow_cast-from c = omega (arith, c.type_inv.notes c.loop-j.j)
 
 pub overflow_add-from : goal.overflow_add-from
-overflow_add-from c = omega (arith, c.shared_slice_known-in-loop-j-1.given c.loop-j.j)
+overflow_add-from c = omega (arith, c.type_inv.notes c.loop-j.j)
 
 pub loop-j-preserved : goal.loop-j-preserved
 loop-j-preserved c =

@@ -9,7 +9,7 @@ pub loop-k-init : goal.loop-k-init
 loop-k-init c = (refl, c.requires, refl)
 
 pub overflow_cast-place : goal.overflow_cast-place
-overflow_cast-place c = omega (arith, c.shared_slice_known-1.given c.loop-k.k)
+overflow_cast-place c = omega (arith, c.type_inv.notes c.loop-k.k)
 
 pub bounds-out-place : goal.bounds-out-place
 bounds-out-place c =

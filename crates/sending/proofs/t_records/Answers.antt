@@ -5,7 +5,7 @@ use mathlib.Core.Path.{sym, ap, ap₂, subst, ◌∙◌}
 use mathlib.Core.List.{List}
 use Rattle.payments.specs.Rules.{key_of}
 use Rattle.sorting.specs.Kept.{first_of}
-use Rattle.sorting.specs.Sound.{first_below}
+use Rattle.sorting.proofs.Sound.{first_below}
 use Rattle.sorting.specs.Frame.{fit, found, t_found}
 use Rattle.sending.specs.Turns.{RoomFor, paid_is}
 use Rattle.sending.specs.Sending.{send_first, send_room, send_next, out_same, notes_same, list_same, send_last}

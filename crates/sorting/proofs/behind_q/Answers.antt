@@ -1,6 +1,6 @@
 use native.Mathlib.Omega.{arith}
 use Rattle.sorting.specs.Frame.{fit}
-use Rattle.sorting.specs.Answers.{kept_le, told_33, told_z, told_43, told_going}
+use Rattle.sorting.proofs.Answers.{kept_le, told_33, told_z, told_43, told_going}
 use Rattle.sorting.proofs.behind_q.Goals as goal
 
 pub no_amount-spoiled-requires : goal.no_amount-spoiled-requires

@@ -1,5 +1,5 @@
 use Rattle.sorting.specs.Frame.{fit}
-use Rattle.sorting.specs.Answers.{told_later, told_q, told_whole}
+use Rattle.sorting.proofs.Answers.{told_later, told_q, told_whole}
 use Rattle.sorting.proofs.by_records.Goals as goal
 
 pub sum-sums-requires : goal.sum-sums-requires

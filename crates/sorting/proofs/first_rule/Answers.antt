@@ -1,6 +1,6 @@
 use native.Mathlib.Omega.{arith}
 use Rattle.judge.specs.Run.{one_lies}
-use Rattle.sorting.specs.Outcome.{alone_told}
+use Rattle.sorting.proofs.Outcome.{alone_told}
 use Rattle.sorting.proofs.first_rule.Goals as goal
 
 pub run-found-requires : goal.run-found-requires

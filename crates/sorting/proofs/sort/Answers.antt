@@ -1,6 +1,6 @@
 use mathlib.Core.Path.{sym, ◌∙◌}
 use Rattle.structure.specs.declared.Shape.TheVariants.{Fits, Refused}
-use Rattle.sorting.specs.Answers.{told_no_page, told_shape}
+use Rattle.sorting.proofs.Answers.{told_no_page, told_shape}
 use mathlib.Core.Bool.{not}
 use mathlib.Core.Path.{ap}
 use Rattle.sorting.proofs.sort.Goals as goal

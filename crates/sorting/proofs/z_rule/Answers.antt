@@ -2,7 +2,7 @@ use native.Mathlib.Omega.{arith}
 use mathlib.Core.Path.{ap, ◌∙◌}
 use Rattle.payments.specs.Rules.{key_of}
 use Rattle.sorting.specs.Frame.{fit, found, t_found}
-use Rattle.sorting.specs.Answers.{z_lies, z_told}
+use Rattle.sorting.proofs.Answers.{z_lies, z_told}
 use Rattle.sorting.proofs.z_rule.Goals as goal
 
 pub key-key-requires : goal.key-key-requires

@@ -1,6 +1,7 @@
 use Rattle.std.proofs.Common.{◌≡◌, length, sym, ◌∙◌, rules}
 use Rattle.book.specs.Kept.{entry_of}
-use Rattle.book.specs.Laws.{unmapped, too_large, too_early, is_held, is_full, has_room, tells_taken}
+use Rattle.book.specs.Laws.{unmapped}
+use Rattle.book.proofs.Taking.{too_large, too_early, is_held, is_full, has_room, tells_taken}
 use Rattle.book.proofs.Book.take.Goals as goal
 
 pub returns-then-is_too_large : goal.returns-then-is_too_large

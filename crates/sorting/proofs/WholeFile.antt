@@ -29,7 +29,7 @@ use Rattle.sorting.specs.Sorted.{in_digits, no_amount, shares, sorted_as, goes_o
 use Rattle.sorting.specs.Fresh.{ZRight, z_right, fresh_same}
 use Rattle.sorting.specs.Lists.{counts_add, kept_all}
 use Rattle.sorting.specs.Frame.{lengths, file_is, records_count}
-use Rattle.sorting.specs.Outcome.{finds_none}
+use Rattle.sorting.proofs.Outcome.{finds_none}
 
 -- rule 33 holds only of amounts in digits
 pub amount_digits : (t : List ℕ) → rule33 t ≡ 0 → in_digits t ≡ true

@@ -12,7 +12,7 @@ use Rattle.reader.specs.declared.Reader.{Reader}
 use Rattle.reader.specs.Cuts.{Cut, joined, LentWith}
 use Rattle.reader.specs.State.{Mid, mid, eat, pending, view, packed, with_bytes, counted_of, in_order, new_of, fed_of, FedAs, FedTo}
 use Rattle.reader.specs.Eats.{width_le}
-use Rattle.reader.specs.Course.{Course, course_start, course_short, From, from_start, from_next, whole_cut}
+use Rattle.reader.proofs.Course.{Course, course_start, course_short, From, from_start, from_next, whole_cut}
 
 -- cut by cut
 abbrev pub fed_all : Reader → List Cut → Reader

@@ -27,9 +27,9 @@ use Rattle.sorting.specs.Kept.{first_of, kept, t_records, rule_in, kept_in, retu
 use Rattle.sorting.specs.Sorted.{unsorted, goes_on, no_amount, rule_at, behind_q, sort_by, sort_of}
 use Rattle.sorting.specs.Fresh.{ZRight, z_right}
 use Rattle.sorting.specs.Lists.{kept_whole}
-use Rattle.sorting.specs.Sound.{Sortable, kept_sized, kept_keeps}
+use Rattle.sorting.proofs.Sound.{Sortable, kept_sized, kept_keeps}
 use Rattle.sorting.specs.Frame.{fit, lengths, file_is, records_count, z_is}
-use Rattle.sorting.specs.Whole.{z_slot, slot_is, sum_is, kept_same}
+use Rattle.sorting.proofs.WholeFile.{z_slot, slot_is, sum_is, kept_same}
 use Rattle.sorting.specs.declared.Sorted.{Sorted}
 
 pub record GoesOn (page : ℕ) (file transfer cheque : List ℕ) (n : ℕ) : Type 0 where

@@ -30,9 +30,9 @@ use Rattle.reader.specs.declared.Reader.{Reader}
 use Rattle.reader.specs.declared.Read.{Read}
 use Rattle.reader.specs.Cuts.{Cut, joined, read_by, read_verdict, read_judged, reading_of}
 use Rattle.reader.specs.State.{Mid, mid, pending, answered, in_order, new_of, judged_of, or_taken_by, found_of, read_of, end_of}
-use Rattle.reader.specs.Course.{tally_at, next_is, goes, next_place, Stops, Course}
-use Rattle.reader.specs.Figures.{euros_are, cents_are, number_is, changes_are, content_is}
-use Rattle.reader.specs.Reading.{fed_all, ReadAll, all_read, in_order_is}
+use Rattle.reader.proofs.Course.{tally_at, next_is, goes, next_place, Stops, Course}
+use Rattle.reader.proofs.Figures.{euros_are, cents_are, number_is, changes_are, content_is}
+use Rattle.reader.proofs.Reading.{fed_all, ReadAll, all_read, in_order_is}
 
 module _ (page : ℕ) (cuts : List Cut) where
   abbrev file : List ℕ

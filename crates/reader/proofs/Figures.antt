@@ -32,7 +32,7 @@ use Rattle.tally.specs.Record.{breach_in, or_next}
 use Rattle.tally.specs.Settle.{key_at}
 use Rattle.tally.specs.SoFar.{breach_at, same_breach, so_far}
 use Rattle.reader.specs.Cuts.{Cut, joined, completing, read_fault, read_content}
-use Rattle.reader.specs.Course.{tally_at, later_is, next_is}
+use Rattle.reader.proofs.Course.{tally_at, later_is, next_is}
 
 module _ (page : ℕ) (cuts : List Cut) where
   abbrev file : List ℕ

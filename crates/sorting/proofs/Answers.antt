@@ -28,8 +28,8 @@ use Rattle.sorting.specs.Sorted.{shares, sorted_as, unsorted, goes_on, no_amount
 use Rattle.sorting.specs.Lists.{counts_add, sums_add}
 use Rattle.sorting.specs.Frame.{fit, records_count}
 use Rattle.sorting.specs.Counting.{figures_are, figures_of, going_on}
-use Rattle.sorting.specs.Outcome.{holds_none, one_told, q_told, q_below, later_told}
-use Rattle.sorting.specs.Whole.{sum_is, sound_keeps, content_sound, amounts_right, all_kept, goes_whole}
+use Rattle.sorting.proofs.Outcome.{holds_none, one_told, q_told, q_below, later_told}
+use Rattle.sorting.proofs.WholeFile.{sum_is, sound_keeps, content_sound, amounts_right, all_kept, goes_whole}
 use Rattle.sorting.specs.declared.Figures.{Figures}
 use Rattle.sorting.specs.declared.Sorted.{Sorted}
 

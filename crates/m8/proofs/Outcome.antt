@@ -14,7 +14,7 @@ use Rattle.sorting.specs.Kept.{t_records, rule_in, returned_in}
 use Rattle.sorting.specs.Sorted.{goes_on, sort_of}
 use Rattle.sorting.specs.Lists.{counts_add}
 use Rattle.sorting.specs.Frame.{fit, records_count}
-use Rattle.sorting.specs.Goes.{GoesOn, goes}
+use Rattle.sorting.proofs.Goes.{GoesOn, goes}
 use Rattle.sorting.specs.declared.Sorted.{Sorted}
 use Rattle.m8.specs.Filed.{record_in, records_of, not_filed, filed, filed_by, filed_of, FiledAs}
 use Rattle.m8.specs.Course.{Room}

@@ -1,0 +1,5 @@
+pub mod Answers
+pub mod Goes
+pub mod Outcome
+pub mod Sound
+pub mod WholeFile
