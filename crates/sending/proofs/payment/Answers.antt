@@ -12,7 +12,7 @@ bounds-list-names c = c.requires.1.names c.if-rule-ne0.true
 pub returns-then-rule-ne0 : goal.returns-then-rule-ne0
 returns-then-rule-ne0 c =
     let a = c.args in
-    paid_back a.page a.rec.now a.k a.rule a.next a.out.now a.notes.now a.list.now c.if-rule-ne0.true (bounds-list-names c) refl
+    paid_back a.page a.rec.now a.k a.rule a.next a.out.now a.notes.now a.list.now c.if-rule-ne0.true (c.requires.1.names c.if-rule-ne0.true) refl
 
 pub t_record-n-requires : goal.t_record-n-requires
 t_record-n-requires c =
@@ -27,10 +27,10 @@ returns c =
     paid_out a.page a.rec.now a.k a.rule a.next a.out.now a.notes.now a.list.now c.if-rule-ne0.false put.output put.noted
 
 pub offset_bounds-list-names : goal.offset_bounds-list-names
-offset_bounds-list-names c = let h = bounds-list-names c in search rules
+offset_bounds-list-names c = let h = c.requires.1.names c.if-rule-ne0.true in search rules
 
 pub overflow_add-result : goal.overflow_add-result
-overflow_add-result c = let h = bounds-list-names c in search rules
+overflow_add-result c = let h = c.requires.1.names c.if-rule-ne0.true in search rules
 
 pub overflow_add-end : goal.overflow_add-end
 overflow_add-end c = omega (arith, (c.requires.1.bytes c.if-rule-ne0.false).1)
