@@ -20,7 +20,7 @@ overflow_mul-room c =
 pub returns-then-out-room : goal.returns-then-out-room
 returns-then-out-room c =
     let a = c.args in
-    room_refused a.page a.file.now a.transfer.now a.cheque.now a.codes.now a.out.now c.sort-sorted.ensures c.if-number-ne0.false c.if-codes-ne-CODES.false c.if-out-room.true c.refusal-then-out-room.ensures
+    room_refused a.page a.file.now a.transfer.now a.cheque.now a.codes.now a.out.now c.sort-sorted.ensures c.if-number-ne0.false (omega arith) c.if-out-room.true c.refusal-then-out-room.ensures
 
 pub overflow_add-n : goal.overflow_add-n
 overflow_add-n c =

@@ -1,3 +1,4 @@
+use borrow.Author.Rules.{rules}
 use mathlib.Core.Path.{sym, ◌∙◌}
 use Rattle.restore.specs.Told.{no_page, too_short, refuses, restores, notes_in_file}
 use mathlib.Core.Bool.{not}
@@ -19,4 +20,4 @@ pub returns-then-not-exists : goal.returns-then-not-exists
 returns-then-not-exists c = no_page _ _ _ _ _ _ c.is_page-exists.ensures (ap not c.if-not-exists.true)
 
 pub returns-then-out-forwarded : goal.returns-then-out-forwarded
-returns-then-out-forwarded c = too_short _ _ _ _ _ _ c.is_page-exists.ensures (ap not c.if-not-exists.false) c.if-out-forwarded.true
+returns-then-out-forwarded c = too_short _ _ _ _ _ _ c.is_page-exists.ensures (search rules) c.if-out-forwarded.true
