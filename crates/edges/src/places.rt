@@ -69,72 +69,23 @@ fn of_t(rt: &impl Print, file: &[u8]) -> io::Result<()> {
     alone(rt, b"rule 35", file, 971, b"X")
 }
 
+// A file whose first payment has these bytes in T14a and T14b.
+fn amount(rt: &impl Print, file: &[u8], edge: &[u8], t14: &[u8]) -> io::Result<()> {
+    alone(rt, edge, file, 714, t14)
+}
+
 // Rule 33: a non-digit in T14a, in T14b, in both; a last digit that is not 0; amounts of zero, and next to it. One cent
 // passes, and Z3 is then wrong.
 fn of_the_amount(rt: &impl Print, file: &[u8]) -> io::Result<()> {
-    alone(
-        rt,
-        b"T14 0000000000012X 500",
-        file,
-        714,
-        b"0000000000012X500",
-    )?;
-    alone(
-        rt,
-        b"T14 00000000000120 50X",
-        file,
-        714,
-        b"0000000000012050X",
-    )?;
-    alone(
-        rt,
-        b"T14 0000000000012X 50X",
-        file,
-        714,
-        b"0000000000012X50X",
-    )?;
-    alone(
-        rt,
-        b"T14 00000000000120 505",
-        file,
-        714,
-        b"00000000000120505",
-    )?;
-    alone(
-        rt,
-        b"T14 00000000000000 000",
-        file,
-        714,
-        b"00000000000000000",
-    )?;
-    alone(
-        rt,
-        b"T14 00000000000000 005",
-        file,
-        714,
-        b"00000000000000005",
-    )?;
-    alone(
-        rt,
-        b"T14 00000000000000 00X",
-        file,
-        714,
-        b"0000000000000000X",
-    )?;
-    alone(
-        rt,
-        b"T14 00000000000000 015",
-        file,
-        714,
-        b"00000000000000015",
-    )?;
-    alone(
-        rt,
-        b"T14 00000000000000 010",
-        file,
-        714,
-        b"00000000000000010",
-    )
+    amount(rt, file, b"T14 0000000000012X 500", b"0000000000012X500")?;
+    amount(rt, file, b"T14 00000000000120 50X", b"0000000000012050X")?;
+    amount(rt, file, b"T14 0000000000012X 50X", b"0000000000012X50X")?;
+    amount(rt, file, b"T14 00000000000120 505", b"00000000000120505")?;
+    amount(rt, file, b"T14 00000000000000 000", b"00000000000000000")?;
+    amount(rt, file, b"T14 00000000000000 005", b"00000000000000005")?;
+    amount(rt, file, b"T14 00000000000000 00X", b"0000000000000000X")?;
+    amount(rt, file, b"T14 00000000000000 015", b"00000000000000015")?;
+    amount(rt, file, b"T14 00000000000000 010", b"00000000000000010")
 }
 
 fn of_a_cheque(rt: &impl Print, file: &[u8]) -> io::Result<()> {

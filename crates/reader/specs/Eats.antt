@@ -2,9 +2,8 @@
 use Rattle.std.specs.Prelude.{ℕ, ◌+◌, ◌-◌, ◌≤◌, ◌<◌, ◌≡◌, Bool, true, false, not, cond, length, take, drop, ltb, eqb}
 use mathlib.Core.List.{List, [], ◌∷◌, ◌++◌, append-nil, append_assoc}
 use Rattle.std.proofs.Math.Path.{refl, ap}
-use Rattle.std.proofs.Common.{sym, ◌∙◌, arith, ltb-true, ltb-false, eqb-true, length-append, length-take, length-drop, take-append-drop, drop_of_length-le, drop-drop, take_all, lit≤, lit<}
+use Rattle.std.proofs.Common.{sym, ◌∙◌, arith, ltb-true, ltb-false, eqb-true, length-append, length-take, length-drop, take-append-drop, drop-drop, take_all, lit≤, lit<}
 use Rattle.std.proofs.lemmas.Bool.{not-false}
-use Rattle.std.proofs.Math.Seq.{take-length}
 use Rattle.laws.specs.Choice.{on_eq, off_eq, both, either}
 use Rattle.structure.specs.Slots.{width_at}
 use Rattle.forwarding.specs.Put.{put, put_none, put_put_at}
@@ -106,16 +105,6 @@ pub record Ate (page : ℕ) (transfer cheque : List ℕ) (first : Tally) (cut : 
   pub within : at ≤ length cut
   pub same : eat page transfer cheque (mid first []) cut ≡ eat page transfer cheque (mid tally []) (drop at cut)
   pub short : tally.stop ≡ 0 → length cut - at < width_at tally.next
-
--- bytes copied into the room of the unfinished record
-pub held_is : (have : ℕ) (held more ys : List ℕ) → length held ≡ 768 → have + length more ≤ 768
-    → ys ≡ take (length more) more ++ drop (length more) (take (768 - have) (drop have held))
-    → take have held ++ (ys ++ drop (768 - have) (drop have held)) ≡ put have more held
-held_is have held more ys l h e =
-    let long = length-drop have held in
-    let none : drop (768 - have) (drop have held) ≡ [] = drop_of_length-le (drop have held) {i = 768 - have} (omega arith) in
-    let all : take (768 - have) (drop have held) ≡ drop have held = take_all (768 - have) (drop have held) (omega arith) in
-    rw (e, none, all, append-nil, take-length, drop-drop)
 
 module _ (r : Reader) (long : length r.held ≡ 768) (low : r.have ≤ 768) where
   pub pending_long : length (pending r) ≡ r.have

@@ -159,74 +159,37 @@ fn refused(rt: &impl Print) -> io::Result<()> {
     Ok(())
 }
 
+// The first file's figures, in a new book.
+fn figure(rt: &impl Print, edge: &[u8], payments: u64, euros: u64) -> io::Result<()> {
+    totals(rt, edge, Book::new(), 1, 7, payments, euros)?;
+    Ok(())
+}
+
 fn figures(rt: &impl Print) -> io::Result<()> {
-    let new = Book::new();
-    totals(
-        rt,
-        b"1 on day 7, no payments and no euros, new book",
-        new,
-        1,
-        7,
-        0,
-        0,
-    )?;
-    totals(rt, b"1 on day 7, 9999 payments", new, 1, 7, 9999, 1)?;
-    totals(rt, b"1 on day 7, 10000 payments", new, 1, 7, 10000, 1)?;
-    totals(
-        rt,
-        b"1 on day 7, 4294967296 payments",
-        new,
-        1,
-        7,
-        4294967296,
-        1,
-    )?;
-    totals(
+    figure(rt, b"1 on day 7, no payments and no euros, new book", 0, 0)?;
+    figure(rt, b"1 on day 7, 9999 payments", 9999, 1)?;
+    figure(rt, b"1 on day 7, 10000 payments", 10000, 1)?;
+    figure(rt, b"1 on day 7, 4294967296 payments", 4294967296, 1)?;
+    figure(
         rt,
         b"1 on day 7, 18446744073709551615 payments",
-        new,
-        1,
-        7,
         18446744073709551615,
         1,
     )?;
-    totals(
-        rt,
-        b"1 on day 7, 999999999999999 euros",
-        new,
-        1,
-        7,
-        1,
-        999999999999999,
-    )?;
-    totals(
+    figure(rt, b"1 on day 7, 999999999999999 euros", 1, 999999999999999)?;
+    figure(
         rt,
         b"1 on day 7, 1000000000000000 euros",
-        new,
-        1,
-        7,
         1,
         1000000000000000,
     )?;
-    totals(
+    figure(
         rt,
         b"1 on day 7, 18446744073709551615 euros",
-        new,
-        1,
-        7,
         1,
         18446744073709551615,
     )?;
-    totals(
-        rt,
-        b"1 on day 7, 1 payment and 10000 euros",
-        new,
-        1,
-        7,
-        1,
-        10000,
-    )?;
-    Ok(())
+    figure(rt, b"1 on day 7, 1 payment and 10000 euros", 1, 10000)
 }
 
 fn figures_first(rt: &impl Print) -> io::Result<()> {

@@ -18,16 +18,22 @@ unfolding judged_of
 returns-then-not-sane c = on_not _ c.is_page-exists.ensures (ap not c.if-not-exists.false) (off_not _ c.in_order-sane.ensures (ap not c.if-not-sane.true) c.refusal-then-not-sane.ensures)
 
 pub slice_bounds-held-end : goal.slice_bounds-held-end
-unfolding judged_of
-slice_bounds-held-end c = omega (arith, (let h : length c.args.self.held ≡ 768 = search rules in h), (ordered c.args.self c.in_order-sane.ensures (ap not c.if-not-sane.false)).fits)
+slice_bounds-held-end c =
+    let long : length c.args.self.held ≡ 768 = search rules in
+    let order = ordered c.args.self c.in_order-sane.ensures (ap not c.if-not-sane.false) in
+    omega (arith, long, order.fits)
 
 pub slice_bounds-conclude-end : goal.slice_bounds-conclude-end
-unfolding judged_of
-slice_bounds-conclude-end c = sym (pending_long c.args.self (let h : length c.args.self.held ≡ 768 = search rules in h) (ordered c.args.self c.in_order-sane.ensures (ap not c.if-not-sane.false)).fits)
+slice_bounds-conclude-end c =
+    let long : length c.args.self.held ≡ 768 = search rules in
+    let order = ordered c.args.self c.in_order-sane.ensures (ap not c.if-not-sane.false) in
+    sym (pending_long c.args.self long order.fits)
 
 pub conclude-requires : goal.conclude-requires
-unfolding judged_of
-conclude-requires c = (omega (arith, (ordered c.args.self c.in_order-sane.ensures (ap not c.if-not-sane.false)).short, pending_long c.args.self (let h : length c.args.self.held ≡ 768 = search rules in h) (ordered c.args.self c.in_order-sane.ensures (ap not c.if-not-sane.false)).fits), (ordered c.args.self c.in_order-sane.ensures (ap not c.if-not-sane.false)).fine)
+conclude-requires c =
+    let long : length c.args.self.held ≡ 768 = search rules in
+    let order = ordered c.args.self c.in_order-sane.ensures (ap not c.if-not-sane.false) in
+    (omega (arith, order.short, pending_long c.args.self long order.fits), order.fine)
 
 pub returns : goal.returns
 unfolding judged_of
