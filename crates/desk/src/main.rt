@@ -98,6 +98,7 @@ fn main(rt: HostRuntime) -> io::Result<ExitCode> {
     let mut room = [0u8; 65536];
     let input = read_input(&mut rt.stdin(), &mut room);
     if let Some(e) = input.error {
+        // std puts the error's number behind its words
         let told = format!(in rt.alloc(); "{e}")?;
         let why = told.split(" (os error ").next().unwrap_or("");
         eprintln!(rt; "desk: standard input cannot be read: {why}")?;
