@@ -1,9 +1,10 @@
 -- The turns of counting what is kept: a payment more, which is kept or not.
-use Rattle.std.specs.Prelude.{ℕ, ◌+◌, ◌*◌, ◌-◌, ◌≤◌, ◌<◌, ◌≡◌, refl, Bool, true, false, cond, eqb, length}
+use Rattle.std.specs.Prelude.{ℕ, ◌+◌, ◌*◌, ◌-◌, ◌≤◌, ◌<◌, ◌≡◌, refl, Bool, true, false, cond, eqb, length, Option, None}
 use Rattle.std.proofs.Common.{sym, ap, subst, ◌∙◌, arith, eqb-true, length-append, take_at}
 use mathlib.Core.List.{List, [], ◌∷◌, ◌++◌}
 use Rattle.std.proofs.lemmas.Bool.{eqb-false}
 use Rattle.laws.specs.Choice.{on_eq, off_eq}
+use Rattle.laws.specs.Found.{nonzero, none_found, of_none}
 use Rattle.laws.specs.Sums.{sum_of, sum_append}
 use Rattle.forwarding.specs.Text.{q_texts, t_texts}
 use Rattle.forwarding.specs.Forwarded.{notes_of}
@@ -168,6 +169,31 @@ module _ (page : ℕ) (file transfer cheque : List ℕ) (n : ℕ) (e : structure
     counted_next first asked =
         counted_behind (t_records file) (z_of file n e page transfer cheque) k first l (records_split file n e k l)
         (kept_lengths file n e page transfer cheque) (kept_few file n e page transfer cheque) asked h
+
+  -- record k is counted behind those before it: one that is kept, and one that is returned
+  module _ (k : ℕ) (low : 1 ≤ k) (high : k ≤ n) {f : Figures} (h : CountedIn page file transfer cheque (k - 1) f) where
+    record_counted : (first : ℕ) → first ≡ rule (slot_at file k)
+        → Small f × CountedIn page file transfer cheque (k + 1 - 1) (with_one f first (slot_at file k))
+    record_counted first asked =
+        let back : k - 1 + 1 ≡ k = omega arith in
+        let here : k - 1 + 1 ≡ k + 1 - 1 = omega arith in
+        let next = counted_next (k - 1) (omega arith) h first (asked ∙ ap (λ (j : ℕ). rule (slot_at file j)) (sym back)) in (
+          next.0,
+          subst (λ (m : ℕ). CountedIn page file transfer cheque m (with_one f first (slot_at file k))) here
+              (subst (λ (j : ℕ). CountedIn page file transfer cheque (k - 1 + 1) (with_one f first (slot_at file j))) back next.1),
+        )
+
+    pub counted_small : Small f
+    counted_small = (record_counted (rule (slot_at file k)) refl).0
+
+    module _ {o : Option ℕ} (told : o ≡ nonzero (rule (slot_at file k))) where
+      pub counted_kept : o ≡ None → CountedIn page file transfer cheque (k + 1 - 1) (with_one f 0 (slot_at file k))
+      counted_kept e = (record_counted 0 (sym (of_none (sym e ∙ told)))).1
+
+      pub counted_returned : (o ≡ None → ⊥) → CountedIn page file transfer cheque (k + 1 - 1) f
+      counted_returned some =
+          subst (CountedIn page file transfer cheque (k + 1 - 1)) (sym (one_returned f (rule (slot_at file k)) (slot_at file k) (λ z. some (told ∙ sym (none_found z)))))
+          (record_counted (rule (slot_at file k)) refl).1
 
   pub counted_all : {f : Figures} → CountedIn page file transfer cheque n f → f ≡ figures_of page file transfer cheque
   unfolding kept_file figures_of

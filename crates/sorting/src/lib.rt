@@ -2,6 +2,7 @@
 #![tactic(auto)]
 
 ghost use Rattle.std.specs.Prelude.{◌≡◌, ◌+◌, ◌*◌, ◌≤◌, ◌<◌, length};
+ghost use Rattle.laws.specs.Found.{nonzero};
 ghost use Rattle.sorting.specs.Kept.{first_of};
 ghost use Rattle.judge.specs.Sums.{euro_sum};
 ghost use Rattle.sorting.specs.Sorted.{unsorted, in_digits, no_amount, rule_at, behind_q, sort_by, SortedAs};
@@ -49,14 +50,17 @@ pub fn refusal(number: usize, rec: usize) -> Sorted
     }
 }
 
-// The first of the rules 20 to 35 that a T record breaks, or 0. The key is record 1's. The judge's own loop asks them, so that
+// The first of the rules 20 to 35 that a T record breaks. The key is record 1's. The judge's own loop asks them, so that
 // they are compiled into one place; as of record 1 of one, for no T rule asks for a record's number.
-pub fn first_rule(page: u32, transfer: &[u8], cheque: &[u8], key: &[u8], t: &[u8]) -> usize
+pub fn first_rule(page: u32, transfer: &[u8], cheque: &[u8], key: &[u8], t: &[u8]) -> Option<usize>
     requires { (length t.now ≡ 768) × (length key.now ≡ 21) }
-    ensures { result ≡ first_of page transfer.now cheque.now key.now t.now }
+    ensures { result ≡ nonzero (first_of page transfer.now cheque.now key.now t.now) }
 {
     let found = judge::run(page, transfer, cheque, key, 1, 0, t, Q::LENGTH, 1, 2);
-    found.number
+    if found.number == 0 {
+        return None;
+    }
+    Some(found.number)
 }
 
 // T14a and T14b are all digits.
@@ -68,37 +72,32 @@ fn in_digits(t: &[u8]) -> bool
         & fields::all(Class::Digit, T::field(t, TField::T14b))
 }
 
-// The first of n payments whose amount has a non-digit, or 0.
-fn no_amount(file: &[u8], n: usize) -> usize
+// The first of n payments whose amount has a non-digit.
+fn no_amount(file: &[u8], n: usize) -> Option<usize>
     requires { (length file.now ≡ 512 + 768 * n) × (n ≤ 9999) }
-    ensures { result ≡ no_amount file.now n }
+    ensures { result ≡ nonzero (no_amount file.now n) }
 {
-    let mut k = 1;
-    while k <= n {
+    for k in 1..n + 1 {
         if !in_digits(structure::slot(file, k)) {
-            return k;
+            return Some(k);
         }
-        k += 1;
     }
-    0
+    None
 }
 
 // What the kept payments come to so far, with Q's changes among theirs.
-#[derive(Drop)]
+#[derive(Clone, Copy)]
 pub struct Figures {
     pub payments: u64,
     pub euros: u64,
     pub changes: usize,
 }
 
-// One payment more, which has this first broken rule.
-fn with_one(had: Figures, rule: usize, t: &[u8]) -> Figures
+// One payment more that is kept.
+fn with_one(had: Figures, t: &[u8]) -> Figures
     requires { (length t.now ≡ 768) × Small had }
-    ensures { result ≡ with_one had rule t.now }
+    ensures { result ≡ with_one had 0 t.now }
 {
-    if rule != 0 {
-        return had;
-    }
     Figures {
         payments: had.payments + 1,
         euros: had.euros + judge::euros_of(t),
@@ -117,12 +116,11 @@ fn count_kept(page: u32, file: &[u8], n: usize, transfer: &[u8], cheque: &[u8]) 
         euros: 0,
         changes: count::q_record(structure::slot(file, 0)),
     };
-    let mut k = 0;
-    while k < n {
-        k += 1;
+    for k in 1..n + 1 {
         let t = structure::slot(file, k);
-        let rule = first_rule(page, transfer, cheque, key, t);
-        sum = with_one(sum, rule, t);
+        if first_rule(page, transfer, cheque, key, t).is_none() {
+            sum = with_one(sum, t);
+        }
     }
     sum
 }
@@ -132,15 +130,13 @@ fn going_on(kept: Figures, n: usize, euros: u64) -> Sorted
     requires { (kept.payments ≤ n) × (kept.euros ≤ euros) }
     ensures { result ≡ going_on kept n euros }
 {
-    let some = kept.payments;
-    let sum = kept.euros;
     let payments = Shares {
-        kept: some,
-        returned: (n as u64) - some,
+        kept: kept.payments,
+        returned: (n as u64) - kept.payments,
     };
     let euros = Shares {
-        kept: sum,
-        returned: euros - sum,
+        kept: kept.euros,
+        returned: euros - kept.euros,
     };
     Sorted {
         number: 0,
@@ -178,8 +174,7 @@ fn behind_q(page: u32, file: &[u8], n: usize, euros: u64, transfer: &[u8], chequ
     requires { (structure_of file.now ≡ Fits n) × (euros ≡ euro_sum file.now n) }
     ensures { result ≡ behind_q page file.now n transfer.now cheque.now }
 {
-    let spoiled = no_amount(file, n);
-    if spoiled != 0 {
+    if let Some(spoiled) = no_amount(file, n) {
         return refusal(33, spoiled);
     }
     let broken = z_rule(page, file, n, euros, transfer, cheque);
@@ -187,8 +182,7 @@ fn behind_q(page: u32, file: &[u8], n: usize, euros: u64, transfer: &[u8], chequ
         return refusal(broken, n + 1);
     }
     let kept = count_kept(page, file, n, transfer, cheque);
-    let payments = kept.payments;
-    if payments == 0 {
+    if kept.payments == 0 {
         return refusal(43, 0);
     }
     going_on(kept, n, euros)

@@ -1,4 +1,5 @@
-use native.Mathlib.Omega.{arith}
+use Rattle.std.proofs.Common.{arith, sym, ◌∙◌, ap, Some}
+use Rattle.laws.specs.Found.{nonzero, none_found, some_found}
 use Rattle.judge.specs.Run.{one_lies}
 use Rattle.sorting.proofs.Outcome.{alone_told}
 use Rattle.sorting.proofs.first_rule.Goals as goal
@@ -6,8 +7,3 @@ use Rattle.sorting.proofs.first_rule.Goals as goal
 pub run-found-requires : goal.run-found-requires
 run-found-requires c =
     (one_lies c.args.t.now 1 (omega (arith, c.requires.0)) 1 (omega arith) c.requires.0, c.requires.1)
-
-pub returns : goal.returns
-returns c =
-    let a = c.args in
-    alone_told a.page a.transfer.now a.cheque.now a.key.now a.t.now c.requires.0 c.run-found.ensures
