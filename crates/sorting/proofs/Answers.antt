@@ -1,11 +1,12 @@
 -- What each return of the code answers, as the definition has it.
-use Rattle.std.specs.Prelude.{ℕ, ◌+◌, ◌-◌, ◌≤◌, ◌<◌, ◌≡◌, refl, Bool, true, false, not, cond, List, ◌⊎◌, eqb}
+use Rattle.std.specs.Prelude.{ℕ, ◌+◌, ◌-◌, ◌≤◌, ◌<◌, ◌≡◌, refl, Bool, true, false, not, cond, List, ◌⊎◌, eqb, None, Some}
 use Rattle.std.proofs.Common.{sym, ◌∙◌, inl, inr, eqb-true}
 use Rattle.std.proofs.Math.Path.{ap}
 use native.Mathlib.Omega.{arith}
 use Rattle.std.proofs.lemmas.Bool.{eqb-false}
 use Rattle.std.proofs.Math.ListN.{length}
 use Rattle.laws.specs.Choice.{on_eq, off_eq, on_not, off_not}
+use Rattle.laws.specs.Found.{nonzero, of_none, of_some, of_some_ne}
 use Rattle.laws.specs.Sums.{sum_of}
 use Rattle.charset.specs.Table.{is_page}
 use Rattle.payments.specs.Rules.{key_of}
@@ -77,17 +78,17 @@ module _ (page : ℕ) (file transfer cheque : List ℕ) (n : ℕ) (e : structure
       ap (λ (f : Figures). going_on f n sum) p
       ∙ (λ i. sorted_as 0 0 (length (notes_of page (kept_file page file transfer cheque))) (shares (length (kept_in page file transfer cheque)) (m i)) (shares (sum_of euros (kept_in page file transfer cheque)) (k i)))
 
-  module _ {spoiled : ℕ} (p : spoiled ≡ no_amount file n) where
-    pub told_33 : {r : Sorted} → (spoiled ≡ 0 → ⊥) → r ≡ unsorted 33 spoiled → r ≡ behind_q page file n transfer cheque
-    unfolding behind_q
-    told_33 f h = off_eq _ (λ z. f (p ∙ z)) (h ∙ ap (unsorted 33) p)
+  pub told_33 : {r : Sorted} {spoiled : ℕ} → Some spoiled ≡ nonzero (no_amount file n) → r ≡ unsorted 33 spoiled → r ≡ behind_q page file n transfer cheque
+  unfolding behind_q
+  told_33 p h = off_eq _ (of_some_ne p) (h ∙ ap (unsorted 33) (of_some p))
 
-    module _ (none : spoiled ≡ 0) {broken : ℕ} (b : broken ≡ rule_at page file n transfer cheque (n + 1)) where
+  module _ (none : None ≡ nonzero (no_amount file n)) where
+    module _ {broken : ℕ} (b : broken ≡ rule_at page file n transfer cheque (n + 1)) where
       by_amounts : {r : Sorted} → r ≡ refusing broken (n + 1) (cond (eqb (length (kept_in page file transfer cheque)) 0) (unsorted 43 0) (goes_on page file transfer cheque))
           → r ≡ behind_q page file n transfer cheque
       unfolding behind_q
       by_amounts h =
-          on_eq _ (sym p ∙ none)
+          on_eq _ (of_none none)
           (h ∙ ap (λ (r : ℕ). refusing r (n + 1) (cond (eqb (length (kept_in page file transfer cheque)) 0) (unsorted 43 0) (goes_on page file transfer cheque))) b)
 
       pub told_z : {r : Sorted} → (broken ≡ 0 → ⊥) → r ≡ unsorted broken (n + 1) → r ≡ behind_q page file n transfer cheque
