@@ -1,7 +1,7 @@
 pub mod First
-pub mod Found
 pub mod Content
 pub mod Run
+pub mod Found
 pub mod ByKind
 pub mod Sums
 pub mod Verdict

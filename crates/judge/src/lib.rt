@@ -128,25 +128,25 @@ impl Refusal {
 impl From<Misfit> for Refusal {
     ghost from_gives = { λ m r. r ≡ Structure m };
 
-    fn from(misfit: Misfit) -> Refusal {
-        Refusal::Structure(misfit)
+    fn from(misfit: Misfit) -> Self {
+        Self::Structure(misfit)
     }
 }
 
 impl From<Breach> for Refusal {
     ghost from_gives = { λ b r. r ≡ Broken b };
 
-    fn from(breach: Breach) -> Refusal {
-        Refusal::Broken(breach)
+    fn from(breach: Breach) -> Self {
+        Self::Broken(breach)
     }
 }
 
 impl From<Result<Totals, Refusal>> for Verdict {
     ghost from_gives = { λ found v. v ≡ verdict_in found };
 
-    fn from(found: Result<Totals, Refusal>) -> Verdict {
+    fn from(found: Result<Totals, Refusal>) -> Self {
         match found {
-            Ok(totals) => Verdict {
+            Ok(totals) => Self {
                 number: 0,
                 rec: 0,
                 at: 0,
@@ -154,7 +154,7 @@ impl From<Result<Totals, Refusal>> for Verdict {
                 euros: totals.euros,
                 cents: totals.cents,
             },
-            Err(why) => Verdict::refused(why.number(), why.rec(), why.at()),
+            Err(why) => Self::refused(why.number(), why.rec(), why.at()),
         }
     }
 }
@@ -277,7 +277,9 @@ pub fn content(
     requires { (length file.now ≡ 512 + 768 * n) × ((1 ≤ n) × (n ≤ 9999)) }
     ensures { result ≡ unbroken (content_of page file.now n euros transfer.now cheque.now) }
 {
-    let key = payments::key(structure::slot(file, 1)).as_array::<21>().unwrap();
+    let key = payments::key(structure::slot(file, 1))
+        .as_array::<21>()
+        .unwrap();
     match run(page, transfer, cheque, key, n, euros, file, 0, 0, n + 2) {
         Some(breach) => Err(breach),
         None => Ok(()),
@@ -328,12 +330,7 @@ pub fn number_of(q: &[u8; 256]) -> u64
 }
 
 // Structure, then content.
-pub fn examine(
-    page: u32,
-    file: &[u8],
-    transfer: &[u8],
-    cheque: &[u8],
-) -> Result<Totals, Refusal>
+pub fn examine(page: u32, file: &[u8], transfer: &[u8], cheque: &[u8]) -> Result<Totals, Refusal>
     ensures answer { verdict_in result ≡ verdict_of page file.now transfer.now cheque.now }
     ensures real { IfErr result (λ r. number_of r ≡ 0 → ⊥) }
 {

@@ -1,4 +1,4 @@
-use Rattle.std.specs.Prelude.{◌<◌, ◌≡◌, None}
+use Rattle.std.specs.Prelude.{◌≡◌, None}
 use Rattle.laws.specs.Scan.{first}
 use Rattle.judge.specs.First.{breaks, first_rule}
 use Rattle.judge.specs.Content.{rule_from, rule_end}

@@ -1,5 +1,5 @@
 use Rattle.std.specs.Prelude.{not, refl}
-use Rattle.std.proofs.Common.{sym, ap, ◌∙◌, arith}
+use Rattle.std.proofs.Common.{sym, ap, arith}
 use Rattle.std.proofs.lemmas.Result.{err_from_is_err_and}
 use Rattle.structure.specs.Slots.{q_long}
 use Rattle.judge.specs.Told.{sound_fits, judged_no_page, judged_refused, judged_taken, judged_free}
