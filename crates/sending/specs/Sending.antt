@@ -5,7 +5,7 @@ use Rattle.laws.specs.Found.{nonzero, or_zero, or_zero_nonzero}
 use Rattle.payments.specs.Rules.{key_of}
 use Rattle.structure.specs.Slots.{slot_at}
 use Rattle.structure.specs.Walk.{structure_of}
-use Rattle.structure.specs.declared.Shape.TheVariants.{Fits}
+use Rattle.structure.specs.Shape.{Fits}
 use Rattle.forwarding.specs.Put.{put}
 use Rattle.forwarding.specs.Pieces.{sent_in, noted_in}
 use Rattle.forwarding.specs.Sized.{z_at, begins_last}
