@@ -12,7 +12,7 @@ ghost use Rattle.judge.specs.Sums.{euros, cents, euro_sum, cent_sum, file_number
 ghost use Rattle.judge.specs.Verdict.{refused, verdict_of, judge_of, JudgedAs};
 ghost use Rattle.judge.specs.declared.Refusal.TheVariants.{Structure, Broken};
 
-use records::{Q, QField, T, TField};
+use records::{QField, TField};
 use structure::Misfit;
 
 // The first broken rule, its record, and the place there of the field that breaks it; zeros where none is broken.
@@ -290,13 +290,14 @@ pub fn content(
 pub fn euros_of(rec: &[u8; 768]) -> u64
     ensures { result ≡ euros rec.now }
 {
-    fields::value(T::field(rec, TField::T14a))
+    fields::value(records::bytes(rec, TField::T14a))
 }
 
+#[tactic(auto, unfolding(records::specs::Places::part))]
 pub fn cents_of(rec: &[u8; 768]) -> u64
     ensures { result ≡ cents rec.now }
 {
-    let t14b = T::field(rec, TField::T14b);
+    let t14b = records::bytes(rec, TField::T14b);
     fields::value(&t14b[0..2])
 }
 
@@ -323,9 +324,9 @@ pub fn sum(file: &[u8], n: usize) -> Totals
 pub fn number_of(q: &[u8; 256]) -> u64
     ensures { result ≡ file_number q.now }
 {
-    let q4 = fields::value(Q::field(q, QField::Q4));
-    let q6 = fields::value(Q::field(q, QField::Q6));
-    let q7 = fields::value(Q::field(q, QField::Q7));
+    let q4 = fields::value(records::bytes(q, QField::Q4));
+    let q6 = fields::value(records::bytes(q, QField::Q6));
+    let q7 = fields::value(records::bytes(q, QField::Q7));
     q4 * 100000000 + q6 * 100 + q7
 }
 
