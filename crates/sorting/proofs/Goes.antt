@@ -86,6 +86,12 @@ module _ (page : ℕ) (file transfer cheque : List ℕ) where
       go true (Refused number rec) p e (inr t) is z = absurd (t.1.real (sym (ap (λ (s : Sorted). s.number) is) ∙ z))
       go false s p e w is z = absurd (omega (arith, ap (λ (s : Sorted). s.number) is))
 
+  -- so the number of a refusal is never 0
+  pub refused_real : {number rec : ℕ} → unsorted number rec ≡ sort_of page file transfer cheque → number ≡ 0 → ⊥
+  refused_real e z =
+      let g = goes (sym (ap (λ (s : Sorted). s.number) e) ∙ z) in
+      omega (arith, ap (λ (s : Sorted). s.payments.kept) (e ∙ g.1.answer), g.1.some)
+
 -- what it has, by its records
 module _ (page : ℕ) (file transfer cheque : List ℕ) (n : ℕ) (g : GoesOn page file transfer cheque n) where
   abbrev F : ℕ → ℕ → ℕ

@@ -1,7 +1,7 @@
 // Sorting a file's payments: those that break a rule come back, and the others go on.
 #![tactic(auto)]
 
-ghost use Rattle.std.specs.Prelude.{◌≡◌, ⊥, ◌+◌, ◌*◌, ◌≤◌, ◌<◌, Ok, IfErr, is_ok, length};
+ghost use Rattle.std.specs.Prelude.{◌≡◌, ◌+◌, ◌*◌, ◌≤◌, ◌<◌, Ok, IfErr, is_ok, length};
 ghost use Rattle.laws.specs.Found.{nonzero};
 ghost use Rattle.records.specs.Places.{t_place};
 ghost use Rattle.rules.specs.Told.{offset};
