@@ -124,6 +124,7 @@ pub struct Figures {
 }
 
 // One payment more that is kept.
+#[tactic(auto, using(judge::specs::Sums::euros_lt, forwarding::specs::Fields::t_few))]
 fn with_one(had: Figures, t: &[u8; 768]) -> Figures
     requires { Small had }
     ensures { result ≡ with_one had 0 t.now }

@@ -26,7 +26,7 @@ returns-in-Err c =
     leaves _ _ _ _ _ _ (omega arith) c.loop-k.invariant (on _ (ap not (sym (e.right ∙ ap in_digits c.whole.ensures))) refl) in
     let place : c.place.result.start ≡ digits_place (slot_at a.file.now (no_amount a.file.now a.n)) =
     ap (λ (s : Span). s.start) c.place.ensures ∙ e.place ∙ ap digits_place (c.whole.ensures ∙ ap (slot_at a.file.now) here) in
-    off_eq (Ok tt) (λ z. omega arith) (λ i. Err (record { number = 33; rec = here i; at = place i }))
+    off_eq (Ok tt) (λ (z : no_amount a.file.now a.n ≡ 0). omega arith) (λ i. Err (record { number = 33; rec = here i; at = place i }))
 
 pub loop-k-preserved : goal.loop-k-preserved
 loop-k-preserved c =
