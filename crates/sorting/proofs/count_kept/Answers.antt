@@ -44,12 +44,12 @@ loop-k-preserved c =
     let a = c.args in
     let l = c.loop-k in
     elim c.if-is_none.branch [
-      then-is_none w ↦
-        subst (CountedIn a.page a.file.now a.transfer.now a.cheque.now (l.k + 1 - 1)) (sym (w.sum-is ∙ w.with_one-sum.ensures ∙ ap (with_one l.sum 0) c.whole-t.ensures))
-        (counted_kept a.page a.file.now a.transfer.now a.cheque.now a.n c.requires l.k (omega arith) (omega arith) l.invariant _ (told c) (c.is_none.ensures ∙ ap not w.if-is_none.true))
-    | else-is_none w ↦
-        subst (CountedIn a.page a.file.now a.transfer.now a.cheque.now (l.k + 1 - 1)) (sym w.sum-is)
-        (counted_returned a.page a.file.now a.transfer.now a.cheque.now a.n c.requires l.k (omega arith) (omega arith) l.invariant _ (told c) (c.is_none.ensures ∙ ap not w.if-is_none.false))
+      | then-is_none w ↦
+          subst (CountedIn a.page a.file.now a.transfer.now a.cheque.now (l.k + 1 - 1)) (sym (w.sum-is ∙ w.with_one-sum.ensures ∙ ap (with_one l.sum 0) c.whole-t.ensures))
+          (counted_kept a.page a.file.now a.transfer.now a.cheque.now a.n c.requires l.k (omega arith) (omega arith) l.invariant _ (told c) (c.is_none.ensures ∙ ap not w.if-is_none.true))
+      | else-is_none w ↦
+          subst (CountedIn a.page a.file.now a.transfer.now a.cheque.now (l.k + 1 - 1)) (sym w.sum-is)
+          (counted_returned a.page a.file.now a.transfer.now a.cheque.now a.n c.requires l.k (omega arith) (omega arith) l.invariant _ (told c) (c.is_none.ensures ∙ ap not w.if-is_none.false))
     ]
 
 pub returns : goal.returns
