@@ -14,8 +14,7 @@ use Rattle.records.specs.Places.{record_at}
 use Rattle.structure.specs.Slots.{slot_at, width_at, place_is, slot_length, slot_short}
 use Rattle.structure.specs.Walk.{fault_in, structure_of}
 use Rattle.structure.specs.Fits.{Reached, Fit, Stuck, fit, fit_found, stuck_found}
-use Rattle.structure.specs.declared.Shape.{Shape}
-use Rattle.structure.specs.declared.Shape.TheVariants.{Fits, Refused}
+use Rattle.structure.specs.Shape.{Shape, Fits, Refused}
 use Rattle.judge.specs.Sums.{euro_sum, cent_sum, file_number}
 use Rattle.judge.specs.Verdict.{refused, sound, unless, or_taken}
 use Rattle.judge.specs.declared.Breach.{Breach}

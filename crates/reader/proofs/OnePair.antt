@@ -12,8 +12,7 @@ use Rattle.records.specs.Places.{record_at}
 use Rattle.structure.specs.Slots.{slot_at, place_is}
 use Rattle.structure.specs.Walk.{structure_of}
 use Rattle.structure.specs.Fits.{fits}
-use Rattle.structure.specs.declared.Shape.{Shape}
-use Rattle.structure.specs.declared.Shape.TheVariants.{Fits, Refused}
+use Rattle.structure.specs.Shape.{Shape, Fits, Refused}
 use Rattle.judge.specs.Content.{fault_of, rule_from, rule_end, content_of}
 use Rattle.judge.specs.Sums.{euro_sum, cent_sum}
 use Rattle.judge.specs.Verdict.{refused, sound, unless, verdict_by, verdict_of, or_taken, judge_of}

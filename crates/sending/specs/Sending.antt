@@ -3,7 +3,7 @@ use Rattle.std.specs.Prelude.{ℕ, ◌+◌, ◌-◌, ◌≤◌, ◌<◌, ◌≡�
 use Rattle.std.proofs.Common.{sym, ap, subst, ◌∙◌, arith, length-append}
 use Rattle.structure.specs.Slots.{slot_at}
 use Rattle.structure.specs.Walk.{structure_of}
-use Rattle.structure.specs.declared.Shape.TheVariants.{Fits}
+use Rattle.structure.specs.Shape.{Fits}
 use Rattle.forwarding.specs.Put.{put}
 use Rattle.forwarding.specs.Pieces.{sent_in, noted_in}
 use Rattle.forwarding.specs.Sized.{z_at, begins_last}

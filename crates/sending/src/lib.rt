@@ -5,7 +5,7 @@
 ghost use Rattle.std.specs.Prelude.{◌≡◌, ◌+◌, ◌*◌, ◌<◌, length};
 ghost use Rattle.sorting.specs.Kept.{digits, fresh_z};
 ghost use Rattle.structure.specs.Walk.{structure_of};
-ghost use Rattle.structure.specs.declared.Shape.TheVariants.{Fits};
+ghost use Rattle.structure.specs.Shape.{Fits};
 ghost use Rattle.sending.specs.Turns.{Paid, RoomFor};
 ghost use Rattle.sending.specs.Sending.{RoomsIn, Sent};
 ghost use Rattle.sending.specs.Whole.{CanSend, FileSent};

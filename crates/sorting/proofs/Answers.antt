@@ -11,8 +11,7 @@ use Rattle.charset.specs.Table.{is_page}
 use Rattle.payments.specs.Rules.{key_of}
 use Rattle.structure.specs.Slots.{slot_at}
 use Rattle.structure.specs.Walk.{structure_of}
-use Rattle.structure.specs.declared.Shape.{Shape}
-use Rattle.structure.specs.declared.Shape.TheVariants.{Fits}
+use Rattle.structure.specs.Shape.{Shape, Fits}
 use Rattle.judge.specs.First.{first_rule}
 use Rattle.judge.specs.Content.{fault_of, rule_from, rule_end, content_of, rule_real}
 use Rattle.judge.specs.Meaning.{none_broken}

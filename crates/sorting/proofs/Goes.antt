@@ -15,8 +15,7 @@ use Rattle.payments.specs.Rules.{key_of}
 use Rattle.structure.specs.Slots.{slot_at}
 use Rattle.structure.specs.Walk.{structure_of}
 use Rattle.structure.specs.Fits.{Tells, tells}
-use Rattle.structure.specs.declared.Shape.{Shape}
-use Rattle.structure.specs.declared.Shape.TheVariants.{Fits, Refused}
+use Rattle.structure.specs.Shape.{Shape, Fits, Refused}
 use Rattle.judge.specs.Content.{fault_of, rule_from, rule_end, rule_real}
 use Rattle.judge.specs.Meaning.{rules_hold}
 use Rattle.judge.specs.ByKind.{of_q, of_z}

@@ -16,7 +16,7 @@ use Rattle.judge.specs.Records.{joined, file_of, Lengths}
 use Rattle.judge.specs.Apart.{slots_from, slots_count}
 use Rattle.structure.specs.Slots.{slot_at}
 use Rattle.structure.specs.Walk.{structure_of}
-use Rattle.structure.specs.declared.Shape.TheVariants.{Fits}
+use Rattle.structure.specs.Shape.{Fits}
 use Rattle.sorting.specs.Kept.{kept, t_records, rule_in, kept_in, kept_file}
 use Rattle.sorting.specs.Lists.{counts_add}
 use Rattle.sorting.specs.Course.{place_of, kept_more, kept_no_more, records_sized, z_at_place, kept_below, kept_here}

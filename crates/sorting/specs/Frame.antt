@@ -7,8 +7,7 @@ use Rattle.records.specs.Places.{record_at}
 use Rattle.structure.specs.Slots.{slot_at, q_long, t_long, z_long, place_in}
 use Rattle.structure.specs.Walk.{structure_of}
 use Rattle.structure.specs.Fits.{Fit, fits}
-use Rattle.structure.specs.declared.Shape.{Shape}
-use Rattle.structure.specs.declared.Shape.TheVariants.{Fits}
+use Rattle.structure.specs.Shape.{Shape, Fits}
 use Rattle.judge.specs.Sums.{euros}
 use Rattle.judge.specs.Records.{file_of, AllLong, Lengths}
 use Rattle.judge.specs.Apart.{slots_from, slots_count, made}

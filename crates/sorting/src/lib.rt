@@ -6,7 +6,7 @@ ghost use Rattle.sorting.specs.Kept.{first_of};
 ghost use Rattle.judge.specs.Sums.{euro_sum};
 ghost use Rattle.sorting.specs.Sorted.{unsorted, in_digits, no_amount, rule_at, behind_q, sort_by, SortedAs};
 ghost use Rattle.structure.specs.Walk.{structure_of};
-ghost use Rattle.structure.specs.declared.Shape.TheVariants.{Fits};
+ghost use Rattle.structure.specs.Shape.{Fits};
 ghost use Rattle.sorting.specs.Counting.{figures_are, with_one, Small, figures_of, going_on};
 
 use fields::Class;

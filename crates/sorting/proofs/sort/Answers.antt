@@ -1,5 +1,5 @@
 use mathlib.Core.Path.{sym, ◌∙◌}
-use Rattle.structure.specs.declared.Shape.TheVariants.{Fits, Refused}
+use Rattle.structure.specs.Shape.{Fits, Refused}
 use Rattle.sorting.proofs.Answers.{told_no_page, told_shape}
 use mathlib.Core.Bool.{not}
 use mathlib.Core.Path.{ap}
