@@ -1,23 +1,34 @@
 // The judge record by record: what the whole records of a file have shown so far, and what they tell at its end.
 #![tactic(auto)]
 
-ghost use Rattle.std.specs.Prelude.{◌≡◌, [], ◌-◌, ◌≤◌, ◌<◌, length};
+ghost use Rattle.std.specs.Prelude.{◌≡◌, [], ◌-◌, ◌≤◌, ◌<◌, length, IfErr};
 ghost use Rattle.structure.specs.Slots.{width_at};
+ghost use Rattle.structure.specs.Found.{found};
+ghost use Rattle.judge.specs.Found.{broken, unbroken};
+ghost use Rattle.judge.specs.Refusal.{number_of, verdict_in};
 ghost use Rattle.judge.specs.Run.{length_at};
 ghost use Rattle.tally.specs.Record.{breach_in, or_next};
 ghost use Rattle.tally.specs.Settle.{fresh, key_at, stop_at, with_q, with_t, settle_of, is_steady, Steady};
 ghost use Rattle.tally.specs.Conclude.{at_z, conclude_of};
 
-use judge::{Breach, Verdict};
+use judge::{Breach, Refusal, Totals};
+use structure::{Fault, Misfit};
+
+// No broken rule, in C's layout.
+const NONE: Breach = Breach {
+    number: 0,
+    rec: 0,
+    at: 0,
+};
 
 #[repr(C)]
 #[derive(Clone, Copy)]
 pub struct Tally {
     // How many records were whole: the number of the one that comes next.
     pub next: usize,
-    // 0, or what the walk refuses there.
+    // What the walk refuses there; 0 as none is C's layout.
     pub stop: usize,
-    // The first broken rule of the whole records.
+    // The first broken rule of the whole records; zeros as none are C's layout.
     pub broken: Breach,
     // Of Q, the file's number.
     pub number: u64,
@@ -38,9 +49,9 @@ fn breach(
     euros: u64,
     slot: &[u8],
     k: usize,
-) -> Breach
+) -> Option<Breach>
     requires { (length slot.now ≡ length_at payments k) × (length slot.now ≤ width_at k) × (k ≤ 10000) }
-    ensures { result ≡ breach_in page transfer.now cheque.now key.now payments euros slot.now k }
+    ensures { result ≡ broken (breach_in page transfer.now cheque.now key.now payments euros slot.now k) }
 {
     judge::run(
         page,
@@ -72,18 +83,28 @@ fn or_next(
     if broken.number != 0 {
         return broken;
     }
-    breach(page, transfer, cheque, key, k, 0, slot, k)
+    breach(page, transfer, cheque, key, k, 0, slot, k).unwrap_or(NONE)
 }
 
 // The same at Z, which is record k. No rule of Z reads a list.
-fn or_z(broken: Breach, page: u32, key: &[u8; 21], euros: u64, z: &[u8; 256], k: usize) -> Breach
+fn or_z(
+    broken: Breach,
+    page: u32,
+    key: &[u8; 21],
+    euros: u64,
+    z: &[u8; 256],
+    k: usize,
+) -> Result<(), Breach>
     requires { (1 ≤ k) × (k ≤ 10000) }
-    ensures { result ≡ or_next broken (breach_in page [] [] key.now (k - 1) euros z.now k) }
+    ensures { result ≡ unbroken (or_next broken (breach_in page [] [] key.now (k - 1) euros z.now k)) }
 {
     if broken.number != 0 {
-        return broken;
+        return Err(broken);
     }
-    breach(page, &[], &[], key, k - 1, euros, z, k)
+    match breach(page, &[], &[], key, k - 1, euros, z, k) {
+        Some(breach) => Err(breach),
+        None => Ok(()),
+    }
 }
 
 // The key at record k: record 1 brings it.
@@ -91,17 +112,17 @@ fn key_at(k: usize, key: [u8; 21], slot: &[u8; 768]) -> [u8; 21]
     ensures { result ≡ key_at k key slot.now }
 {
     if k == 1 {
-        return *payments::key(slot).as_array::<21>().unwrap();
+        return *payments::key(slot);
     }
     key
 }
 
-// What the walk refuses at a slot that is full, or 0. A file in which record 10,000 fills its slot is too long.
-fn stop_at(k: usize, slot: &[u8]) -> usize
-    ensures { result ≡ stop_at k slot.now }
+// What the walk refuses at a slot that is full. A file in which record 10,000 fills its slot is too long.
+fn stop_at(k: usize, slot: &[u8]) -> Result<(), Fault>
+    ensures { found result ≡ stop_at k slot.now }
 {
     if k == 10000 {
-        return 1;
+        return Err(Fault::TooLong);
     }
     structure::fault_in(k, slot)
 }
@@ -113,11 +134,7 @@ impl Tally {
         Self {
             next: 0,
             stop: 0,
-            broken: Breach {
-                number: 0,
-                rec: 0,
-                at: 0,
-            },
+            broken: NONE,
             number: 0,
             euros: 0,
             cents: 0,
@@ -172,55 +189,57 @@ impl Tally {
         requires { (length slot.now ≡ width_at self.next) × Steady self }
         ensures { result ≡ settle_of page transfer.now cheque.now self slot.now }
     {
-        let k = self.next;
-        let stop = stop_at(k, slot);
-        if stop != 0 {
-            self.stop = stop;
+        if let Err(fault) = stop_at(self.next, slot) {
+            self.stop = fault.number();
             return self;
         }
-        if k == 0 {
-            let q = slot.as_array::<256>().unwrap();
-            return self.with_q(page, q, transfer, cheque);
+        if self.next == 0 {
+            return self.with_q(page, slot.as_array().unwrap(), transfer, cheque);
         }
-        let t = slot.as_array::<768>().unwrap();
-        self.with_t(page, t, transfer, cheque)
+        self.with_t(page, slot.as_array().unwrap(), transfer, cheque)
     }
 
     // The answer where the file ends in a whole Z.
-    fn at_z(self, page: u32, z: &[u8; 256]) -> Verdict
+    fn at_z(self, page: u32, z: &[u8; 256]) -> Result<Totals, Refusal>
         requires { (1 ≤ self.next) × (self.next ≤ 10000) }
-        ensures { result ≡ at_z page self z.now }
+        ensures answer { verdict_in result ≡ at_z page self z.now }
+        ensures real { IfErr result (λ r. number_of r ≡ 0 → ⊥) }
     {
-        let last = or_z(self.broken, page, &self.key, self.euros, z, self.next);
-        if last.number != 0 {
-            return judge::refusal(last.number, last.rec, last.at);
-        }
-        Verdict {
-            number: 0,
-            rec: 0,
-            at: 0,
+        or_z(self.broken, page, &self.key, self.euros, z, self.next)?;
+        Ok(Totals {
             payments: self.next - 1,
             euros: self.euros,
             cents: self.cents,
-        }
+        })
     }
 
     // The answer where the file ends, after so many bytes, with what is left in the slot.
     #[tactic(auto, unfolding(crate::specs::Conclude::conclude_of))]
-    pub fn conclude(self, page: u32, bytes: usize, left: &[u8]) -> Verdict
+    pub fn conclude(self, page: u32, bytes: usize, left: &[u8]) -> Result<Totals, Refusal>
         requires { (length left.now < width_at self.next) × Steady self }
-        ensures { result ≡ conclude_of page self bytes left.now }
+        ensures answer { verdict_in result ≡ conclude_of page self bytes left.now }
+        ensures real { IfErr result (λ r. number_of r ≡ 0 → ⊥) }
     {
         if 7679744 < bytes {
-            return judge::refusal(1, 0, 0);
+            return Err(Refusal::from(Misfit {
+                fault: Fault::TooLong,
+                rec: 0,
+            }));
         }
+        // What stopped the walk is told by its number: in a state that C hands in it may be any.
         if self.stop != 0 {
-            return judge::refusal(self.stop, self.next, 0);
+            return Err(Refusal::from(Breach {
+                number: self.stop,
+                rec: self.next,
+                at: 0,
+            }));
         }
-        let fault = structure::fault_in(self.next, left);
-        if fault != 0 {
-            return judge::refusal(fault, self.next, 0);
+        if let Err(fault) = structure::fault_in(self.next, left) {
+            return Err(Refusal::from(Misfit {
+                fault,
+                rec: self.next,
+            }));
         }
-        self.at_z(page, left.as_array::<256>().unwrap())
+        self.at_z(page, left.as_array().unwrap())
     }
 }
