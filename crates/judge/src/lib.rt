@@ -12,7 +12,7 @@ ghost use Rattle.judge.specs.Sums.{euros, cents, euro_sum, cent_sum, file_number
 ghost use Rattle.judge.specs.Verdict.{refused, verdict_of, judge_of, JudgedAs};
 ghost use Rattle.judge.specs.declared.Refusal.TheVariants.{Structure, Broken};
 
-use records::{Q, QField, T, TField};
+use records::{QField, TField};
 use structure::Misfit;
 
 // The first broken rule, its record, and the place there of the field that breaks it; zeros where none is broken.
@@ -160,6 +160,7 @@ impl From<Result<Totals, Refusal>> for Verdict {
 }
 
 // What a rule says of record k, whose bytes are the slot's, in a file with so many payments.
+#[tactic(auto, unfolding(crate::specs::Run::slot_fault))]
 fn fault(
     page: u32,
     transfer: &[u8],
@@ -175,21 +176,14 @@ fn fault(
     ensures { result ≡ nonzero (slot_fault page transfer.now cheque.now key.now payments euros slot.now k rule) }
 {
     if k == 0 {
-        return nonzero(rules::q::fault(page, slot, rule));
+        return rules::q::fault(page, slot.as_array::<256>().unwrap(), rule);
     }
     if k <= payments {
-        return nonzero(payments::fault(page, transfer, cheque, key, slot, rule));
+        let t = slot.as_array::<768>().unwrap();
+        return payments::fault(page, transfer, cheque, key, t, rule);
     }
-    nonzero(rules::z::fault(payments as u64, euros, slot, rule))
-}
-
-fn nonzero(n: usize) -> Option<usize>
-    ensures { result ≡ nonzero n }
-{
-    if n == 0 {
-        return None;
-    }
-    Some(n)
+    let z = slot.as_array::<256>().unwrap();
+    rules::z::fault(payments as u64, euros, z, rule)
 }
 
 // The rules of record k: from its first up to below its end.
@@ -277,9 +271,7 @@ pub fn content(
     requires { (length file.now ≡ 512 + 768 * n) × ((1 ≤ n) × (n ≤ 9999)) }
     ensures { result ≡ unbroken (content_of page file.now n euros transfer.now cheque.now) }
 {
-    let key = payments::key(structure::slot(file, 1))
-        .as_array::<21>()
-        .unwrap();
+    let key = payments::key(structure::whole(file, 1));
     match run(page, transfer, cheque, key, n, euros, file, 0, 0, n + 2) {
         Some(breach) => Err(breach),
         None => Ok(()),
@@ -290,13 +282,14 @@ pub fn content(
 pub fn euros_of(rec: &[u8; 768]) -> u64
     ensures { result ≡ euros rec.now }
 {
-    fields::value(T::field(rec, TField::T14a))
+    fields::value(records::bytes(rec, TField::T14a))
 }
 
+#[tactic(auto, unfolding(records::specs::Places::part))]
 pub fn cents_of(rec: &[u8; 768]) -> u64
     ensures { result ≡ cents rec.now }
 {
-    let t14b = T::field(rec, TField::T14b);
+    let t14b = records::bytes(rec, TField::T14b);
     fields::value(&t14b[0..2])
 }
 
@@ -323,9 +316,9 @@ pub fn sum(file: &[u8], n: usize) -> Totals
 pub fn number_of(q: &[u8; 256]) -> u64
     ensures { result ≡ file_number q.now }
 {
-    let q4 = fields::value(Q::field(q, QField::Q4));
-    let q6 = fields::value(Q::field(q, QField::Q6));
-    let q7 = fields::value(Q::field(q, QField::Q7));
+    let q4 = fields::value(records::bytes(q, QField::Q4));
+    let q6 = fields::value(records::bytes(q, QField::Q6));
+    let q7 = fields::value(records::bytes(q, QField::Q7));
     q4 * 100000000 + q6 * 100 + q7
 }
 

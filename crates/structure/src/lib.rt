@@ -53,6 +53,7 @@ pub fn width_at(k: usize) -> usize
 }
 
 // The slot of record k.
+#[tactic(auto, unfolding(crate::specs::Slots::slot_at))]
 pub fn slot(file: &[u8], k: usize) -> &[u8]
     requires { (k ≤ 10000) × (record_at k ≤ length file.now) }
     ensures { result.now ≡ slot_at file.now k }
@@ -106,6 +107,7 @@ fn digits_right(slot: &[u8], letter: u8) -> bool
 }
 
 // What breaks at record k, by its slot.
+#[tactic(auto, unfolding(crate::specs::Walk::fault_in))]
 pub fn fault_in(k: usize, slot: &[u8]) -> Result<(), Fault>
     ensures { found result ≡ fault_in k slot.now }
 {
@@ -140,6 +142,7 @@ fn whole_t(k: usize, slot: &[u8]) -> bool
 }
 
 // The walk over the whole file: its number of T records. Records 0 to 10,000 are all that 7,679,744 bytes can hold.
+#[tactic(auto, unfolding(crate::specs::Walk::structure_of))]
 pub fn walk(file: &[u8]) -> Result<usize, Misfit>
     ensures { shape_of result ≡ structure_of file.now }
 {

@@ -1,8 +1,7 @@
 use Rattle.std.specs.Prelude.{ℕ, ◌+◌, ◌≤◌, List, length, get_or, refl}
 use Rattle.std.proofs.Common.{sym, ap, ◌∙◌, arith}
-use Rattle.laws.specs.Choice.{on_lt, off_lt}
+use Rattle.laws.specs.Choice.{off_lt}
 use Rattle.laws.specs.Scan.{goes, leaves}
-use Rattle.structure.specs.Slots.{place_is}
 use Rattle.structure.specs.Walk.{structure_of}
 use Rattle.structure.specs.Whole.{whole, length_low, z_later}
 use Rattle.structure.specs.Fits.{WalksOn, passed_room}
@@ -11,14 +10,7 @@ use Rattle.structure.specs.Turns.{passed, passed_t, hands_on, stops_broken, stop
 use Rattle.structure.proofs.walk.Invariants.{Passed}
 use Rattle.structure.proofs.walk.Goals as goal
 
-pub slot-rec-requires : goal.slot-rec-requires
-slot-rec-requires c = omega (arith, place_is c.loop-k.k)
-
-pub returns-then-file-gt7679744 : goal.returns-then-file-gt7679744
-unfolding structure_of
-returns-then-file-gt7679744 c = on_lt _ c.if-file-gt7679744.true refl
-
--- a turn that passes record k
+-- A turn that passes record k
 turn : (file : List ℕ) (k : ℕ) → Passed file k → length file ≤ 7679744 → WalksOn file k → Passed file (k + 1)
 turn file k inv short p =
     (passed_room file k p, goes _ _ _ _ _ (omega arith) inv.1 (hands_on file k _ _ refl refl p _))
