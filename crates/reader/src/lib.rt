@@ -52,13 +52,7 @@ pub struct Read {
 fn counted(bytes: usize, more: usize) -> usize
     ensures { result ≡ counted_of bytes more }
 {
-    if 7679745 < bytes {
-        return 7679745;
-    }
-    if 7679745 - bytes < more {
-        return 7679745;
-    }
-    bytes + more
+    bytes.saturating_add(more).min(7679745)
 }
 
 // The width of the next slot, where the bytes left fill it.

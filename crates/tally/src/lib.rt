@@ -234,12 +234,8 @@ impl Tally {
                 at: 0,
             }));
         }
-        if let Err(fault) = structure::fault_in(self.next, left) {
-            return Err(Refusal::from(Misfit {
-                fault,
-                rec: self.next,
-            }));
-        }
+        let rec = self.next;
+        structure::fault_in(rec, left).map_err(|fault| Misfit { fault, rec })?;
         self.at_z(page, left.as_array().unwrap())
     }
 }
