@@ -212,18 +212,12 @@ pub fn rule_end(n: usize, k: usize) -> usize
 }
 
 // The slot of record k in bytes that stand from place skip of a file on.
+#[tactic(auto, unfolding(crate::specs::Run::slot_in))]
 fn slot_in(bytes: &[u8], skip: usize, k: usize) -> &[u8]
     requires { (k ≤ 10000) × (skip ≤ record_at k) × (record_at k - skip ≤ length bytes.now) }
     ensures { result.now ≡ slot_in bytes.now skip k }
 {
-    let at = records::record_at(k) - skip;
-    let left = bytes.len() - at;
-    let width = structure::width_at(k);
-    if left < width {
-        return &bytes[at..];
-    }
-    let end = at + width;
-    &bytes[at..end]
+    structure::up_to(bytes, records::record_at(k) - skip, structure::width_at(k))
 }
 
 // The first broken rule of a run of records ends the judgement there.
