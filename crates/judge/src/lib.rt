@@ -212,18 +212,12 @@ pub fn rule_end(n: usize, k: usize) -> usize
 }
 
 // The slot of record k in bytes that stand from place skip of a file on.
+#[tactic(auto, unfolding(crate::specs::Run::slot_in))]
 fn slot_in(bytes: &[u8], skip: usize, k: usize) -> &[u8]
     requires { (k ≤ 10000) × (skip ≤ record_at k) × (record_at k - skip ≤ length bytes.now) }
     ensures { result.now ≡ slot_in bytes.now skip k }
 {
-    let at = records::record_at(k) - skip;
-    let left = bytes.len() - at;
-    let width = structure::width_at(k);
-    if left < width {
-        return &bytes[at..];
-    }
-    let end = at + width;
-    &bytes[at..end]
+    structure::up_to(bytes, records::record_at(k) - skip, structure::width_at(k))
 }
 
 // The first broken rule of a run of records ends the judgement there.
@@ -260,6 +254,7 @@ pub fn run(
 }
 
 // All records of a file with n T records.
+#[tactic(auto, using(crate::specs::Run::content_in_file, crate::specs::Found::failed, crate::specs::Found::passed))]
 pub fn content(
     page: u32,
     file: &[u8],
@@ -294,6 +289,7 @@ pub fn cents_of(rec: &[u8; 768]) -> u64
 }
 
 // The sums over the T records. Cents are never carried.
+#[tactic(auto, using(crate::specs::Sums::summing), unfolding(crate::specs::Sums::euro_sum, crate::specs::Sums::cent_sum))]
 pub fn sum(file: &[u8], n: usize) -> Totals
     requires { (length file.now ≡ 512 + 768 * n) × (n ≤ 9999) }
     ensures { (result.euros ≡ euro_sum file.now n) × (result.cents ≡ cent_sum file.now n) × (result.payments ≡ n) }
@@ -313,6 +309,7 @@ pub fn sum(file: &[u8], n: usize) -> Totals
 }
 
 // The 18 digits of Q4, Q6 and Q7 as one whole number.
+#[tactic(auto, using(fields::specs::Laws::dec_lt, crate::specs::Sums::number_is), unfolding(crate::specs::Sums::file_number))]
 pub fn number_of(q: &[u8; 256]) -> u64
     ensures { result ≡ file_number q.now }
 {
@@ -323,6 +320,7 @@ pub fn number_of(q: &[u8; 256]) -> u64
 }
 
 // Structure, then content.
+#[tactic(auto, unfolding(crate::specs::Verdict::verdict_of))]
 pub fn examine(page: u32, file: &[u8], transfer: &[u8], cheque: &[u8]) -> Result<Totals, Refusal>
     ensures answer { verdict_in result ≡ verdict_of page file.now transfer.now cheque.now }
     ensures real { IfErr result (λ r. number_of r ≡ 0 → ⊥) }
@@ -334,6 +332,7 @@ pub fn examine(page: u32, file: &[u8], transfer: &[u8], cheque: &[u8]) -> Result
 }
 
 // A page that does not exist is 7, before anything is read; then the verdict, and then the taken numbers.
+#[tactic(auto, unfolding(crate::specs::Verdict::judge_of))]
 fn with_taken(
     page: u32,
     file: &[u8],
