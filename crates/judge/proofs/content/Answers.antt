@@ -18,10 +18,10 @@ pub returns-in-Some : goal.returns-in-Some
 returns-in-Some c =
     let a = c.args in
     let key = c.key-key.ensures.bytes ∙ ap key_of c.whole.ensures in
-    failed _ (c.in-Some.ensures ∙ ap broken (content_in_file a.page a.file.now a.n a.euros a.transfer.now a.cheque.now _ key))
+    failed _ (c.in-Some.ensures ∙ ap broken (content_in_file a.terms.now.page a.file.now a.n a.euros a.terms.now.transfer.now a.terms.now.cheque.now _ key))
 
 pub returns-in-None : goal.returns-in-None
 returns-in-None c =
     let a = c.args in
     let key = c.key-key.ensures.bytes ∙ ap key_of c.whole.ensures in
-    passed _ (c.in-None.ensures ∙ ap broken (content_in_file a.page a.file.now a.n a.euros a.transfer.now a.cheque.now _ key))
+    passed _ (c.in-None.ensures ∙ ap broken (content_in_file a.terms.now.page a.file.now a.n a.euros a.terms.now.transfer.now a.terms.now.cheque.now _ key))

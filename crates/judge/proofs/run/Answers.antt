@@ -40,6 +40,6 @@ returns-in-Some c =
     let here = said _ _ _ _ _ _ _ _ _ _ c.slot_in-slot.ensures in
     some_broken (λ z. omega arith)
     (leaves _ _ _ _ _ _ c.records-test.true r.invariant.1
-    (found (run_fault a.page a.transfer.now a.cheque.now a.key.now a.payments a.euros a.bytes.now a.skip) (rule_from a.payments) (rule_end a.payments) r.k l.rule _ _ real
+    (found (run_fault a.terms.now.page a.terms.now.transfer.now a.terms.now.cheque.now a.key.now a.payments a.euros a.bytes.now a.skip) (rule_from a.payments) (rule_end a.payments) r.k l.rule _ _ real
     (leaves _ _ _ _ _ l.rule c.loop-rule-test.true l.invariant.1 (on_ne _ here (of_some_ne found_at) refl))
     (of_some found_at ∙ here)))
