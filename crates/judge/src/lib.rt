@@ -211,18 +211,12 @@ pub fn rule_end(n: usize, k: usize) -> usize
 }
 
 // The slot of record k in bytes that stand from place skip of a file on.
+#[tactic(auto, unfolding(crate::specs::Run::slot_in))]
 fn slot_in(bytes: &[u8], skip: usize, k: usize) -> &[u8]
     requires { (k ≤ 10000) × (skip ≤ record_at k) × (record_at k - skip ≤ length bytes.now) }
     ensures { result.now ≡ slot_in bytes.now skip k }
 {
-    let at = records::record_at(k) - skip;
-    let left = bytes.len() - at;
-    let width = structure::width_at(k);
-    if left < width {
-        return &bytes[at..];
-    }
-    let end = at + width;
-    &bytes[at..end]
+    structure::up_to(bytes, records::record_at(k) - skip, structure::width_at(k))
 }
 
 // The first broken rule of a run of records ends the judgement there.
@@ -257,6 +251,7 @@ pub fn run(
 }
 
 // All records of a file with n T records.
+#[tactic(auto, using(crate::specs::Run::content_in_file, crate::specs::Found::failed, crate::specs::Found::passed))]
 pub fn content(terms: &Terms<'_>, file: &[u8], n: usize, euros: u64) -> Result<(), Breach>
     requires { (length file.now ≡ 512 + 768 * n) × ((1 ≤ n) × (n ≤ 9999)) }
     ensures { result ≡ unbroken (content_of terms.now.page file.now n euros terms.now.transfer.now terms.now.cheque.now) }
@@ -284,6 +279,7 @@ pub fn cents_of(rec: &[u8; 768]) -> u64
 }
 
 // The sums over the T records. Cents are never carried.
+#[tactic(auto, using(crate::specs::Sums::summing), unfolding(crate::specs::Sums::euro_sum, crate::specs::Sums::cent_sum))]
 pub fn sum(file: &[u8], n: usize) -> Totals
     requires { (length file.now ≡ 512 + 768 * n) × (n ≤ 9999) }
     ensures { (result.euros ≡ euro_sum file.now n) × (result.cents ≡ cent_sum file.now n) × (result.payments ≡ n) }
@@ -303,6 +299,7 @@ pub fn sum(file: &[u8], n: usize) -> Totals
 }
 
 // The 18 digits of Q4, Q6 and Q7 as one whole number.
+#[tactic(auto, using(fields::specs::Laws::dec_lt, crate::specs::Sums::number_is), unfolding(crate::specs::Sums::file_number))]
 pub fn number_of(q: &[u8; 256]) -> u64
     ensures { result ≡ file_number q.now }
 {
@@ -313,6 +310,7 @@ pub fn number_of(q: &[u8; 256]) -> u64
 }
 
 // Structure, then content.
+#[tactic(auto, unfolding(crate::specs::Verdict::verdict_of))]
 pub fn examine(terms: &Terms<'_>, file: &[u8]) -> Result<Totals, Refusal>
     ensures answer { verdict_in result ≡ verdict_of terms.now.page file.now terms.now.transfer.now terms.now.cheque.now }
     ensures real { IfErr result (λ r. number_of r ≡ 0 → ⊥) }
@@ -324,6 +322,7 @@ pub fn examine(terms: &Terms<'_>, file: &[u8]) -> Result<Totals, Refusal>
 }
 
 // A page that does not exist is 7, before anything is read; then the verdict, and then the taken numbers.
+#[tactic(auto, unfolding(crate::specs::Verdict::judge_of))]
 fn with_taken(terms: &Terms<'_>, file: &[u8], taken: &[u64]) -> Result<Totals, Refusal>
     ensures { verdict_in result ≡ judge_of terms.now.page file.now terms.now.transfer.now terms.now.cheque.now taken.now }
 {

@@ -1,7 +1,7 @@
 // The walk over a file's records.
 #![tactic(auto)]
 
-ghost use Rattle.std.specs.Prelude.{◌≡◌, ◌+◌, ◌-◌, ◌≤◌, ◌<◌, length};
+ghost use Rattle.std.specs.Prelude.{◌≡◌, ◌+◌, ◌-◌, ◌≤◌, ◌<◌, length, take, drop};
 ghost use Rattle.fields.specs.Class.{same};
 ghost use Rattle.records.specs.Places.{record_at};
 ghost use Rattle.structure.specs.Slots.{width_at, slot_at};
@@ -52,20 +52,22 @@ pub fn width_at(k: usize) -> usize
     T::LENGTH
 }
 
+// The bytes from a place on, up to so many.
+pub fn up_to(bytes: &[u8], at: usize, width: usize) -> &[u8]
+    requires { at ≤ length bytes.now }
+    ensures { result.now ≡ take width (drop at bytes.now) }
+{
+    let rest = &bytes[at..];
+    &rest[..rest.len().min(width)]
+}
+
 // The slot of record k.
 #[tactic(auto, unfolding(crate::specs::Slots::slot_at))]
 pub fn slot(file: &[u8], k: usize) -> &[u8]
     requires { (k ≤ 10000) × (record_at k ≤ length file.now) }
     ensures { result.now ≡ slot_at file.now k }
 {
-    let at = records::record_at(k);
-    let left = file.len() - at;
-    let width = width_at(k);
-    if left < width {
-        return &file[at..];
-    }
-    let end = at + width;
-    &file[at..end]
+    up_to(file, records::record_at(k), width_at(k))
 }
 
 // Record k, where its slot has N bytes.
