@@ -1,8 +1,6 @@
 -- What the whole records of a file tell where it ends.
-use Rattle.std.specs.Prelude.{ℕ, ◌-◌, ◌≤◌, ◌<◌, ◌≡◌, refl, Bool, true, false, cond, List, [], eqb, ltb, length}
+use Rattle.std.proofs.Common.{ℕ, ◌-◌, ◌≤◌, ◌<◌, ◌≡◌, refl, Bool, true, false, cond, List, [], eqb, ltb, length, sym, ◌∙◌, arith, eqb-true, ap}
 use Prim.Native.Char.{code}
-use Rattle.std.proofs.Common.{sym, ◌∙◌, arith, eqb-true}
-use Rattle.std.proofs.Math.Path.{ap}
 use Rattle.std.proofs.lemmas.Bool.{eqb-false}
 use Rattle.laws.specs.Choice.{on_eq, off_eq, on_lt, off_lt}
 use Rattle.structure.specs.Slots.{width_at, later_width}

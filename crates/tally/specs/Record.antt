@@ -1,6 +1,5 @@
 -- A record by itself: its first broken rule, by its bytes, with record 1's bytes from T3 to T4b handed in as the key.
-use Rattle.std.specs.Prelude.{not, unwrap_or, Some, None, ℕ, ◌+◌, ◌≤◌, ◌≡◌, refl, Bool, true, false, cond, List, eqb, length}
-use Rattle.std.proofs.Common.{sym, ap, ◌∙◌, arith}
+use Rattle.std.proofs.Common.{not, unwrap_or, Some, None, ℕ, ◌+◌, ◌≤◌, ◌≡◌, refl, Bool, true, false, cond, List, eqb, length, sym, ap, ◌∙◌, arith}
 use Rattle.laws.specs.Choice.{on_eq}
 use Rattle.laws.specs.Scan.{or_else, run_turn, run_end}
 use Rattle.records.specs.Places.{record_at}
@@ -31,9 +30,10 @@ pub of_run : (page : ℕ) (transfer cheque key : List ℕ) (payments euros : ℕ
     ≡ breach_in page transfer cheque key payments euros slot k
 unfolding breach_in
 of_run page transfer cheque key payments euros slot k skip e short =
-    run_turn (or_else (faulty (run_fault page transfer cheque key payments euros slot skip) (rule_from payments) (rule_end payments)) (told_at (run_fault page transfer cheque key payments euros slot skip) (rule_from payments) (rule_end payments))) none k (k + 1) (omega arith)
-    ∙ ap (or_else (faulty (run_fault page transfer cheque key payments euros slot skip) (rule_from payments) (rule_end payments)) (told_at (run_fault page transfer cheque key payments euros slot skip) (rule_from payments) (rule_end payments)) k) (run_end _ none (k + 1) (k + 1) (omega arith))
-    ∙ ap (λ (s : List ℕ). or_else (faulty (λ (j rule : ℕ). slot_fault page transfer cheque key payments euros s j rule) (rule_from payments) (rule_end payments)) (told_at (λ (j rule : ℕ). slot_fault page transfer cheque key payments euros s j rule) (rule_from payments) (rule_end payments)) k none) (ap (λ (a : ℕ). slot_in slot a k) e ∙ by_itself slot k short)
+    let G : (ℕ → ℕ → ℕ) → ℕ → Breach → Breach = λ F. or_else (faulty F (rule_from payments) (rule_end payments)) (told_at F (rule_from payments) (rule_end payments)) in
+    let R : ℕ → ℕ → ℕ = run_fault page transfer cheque key payments euros slot skip in
+    run_turn (G R) none k (k + 1) (omega arith) ∙ ap (G R k) (run_end _ none (k + 1) (k + 1) (omega arith))
+    ∙ ap (λ (s : List ℕ). G (slot_fault page transfer cheque key payments euros s) k none) (ap (λ (a : ℕ). slot_in slot a k) e ∙ by_itself slot k short)
 
 -- it tells all that there is to tell: where none is broken, zeros
 pub kept_in : (page : ℕ) (transfer cheque key : List ℕ) (payments euros : ℕ) (slot : List ℕ) (k : ℕ)

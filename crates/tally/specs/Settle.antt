@@ -1,7 +1,5 @@
 -- What the whole records of a file have shown so far, as one more is added.
-use Rattle.std.specs.Prelude.{ℕ, ◌+◌, ◌*◌, ◌≤◌, ◌≡◌, Bool, true, false, ◌&&◌, cond, List, eqb, leb, ltb, replicate}
-use Rattle.std.proofs.Math.Path.{refl}
-use Rattle.std.proofs.Common.{sym, ap, ◌∙◌, arith, eqb-true, leb-true, ltb-false, le-leb, lit≤}
+use Rattle.std.proofs.Common.{ℕ, ◌+◌, ◌*◌, ◌≤◌, ◌≡◌, Bool, true, false, ◌&&◌, cond, List, eqb, leb, ltb, replicate, refl, sym, ap, ◌∙◌, arith, eqb-true, leb-true, ltb-false, le-leb, lit≤}
 use Rattle.std.proofs.lemmas.Bool.{false≢true, eqb-false}
 use Rattle.laws.specs.Choice.{either, on_eq, off_eq, off_lt}
 use Rattle.payments.specs.Rules.{key_of}
@@ -130,7 +128,9 @@ module _ (page : ℕ) (transfer cheque : List ℕ) (s : Tally) (slot : List ℕ)
           }
 
       go : (last first : Bool) → eqb s.next 10000 ≡ last → eqb s.next 0 ≡ first
-          → Steady (cond (eqb (cond last 1 (fault_in s.next slot)) 0) (cond first (with_q page transfer cheque s slot) (with_t page transfer cheque s slot)) (stopped s (cond last 1 (fault_in s.next slot))))
+          → Steady (cond (eqb (cond last 1 (fault_in s.next slot)) 0)
+          (cond first (with_q page transfer cheque s slot) (with_t page transfer cheque s slot))
+          (stopped s (cond last 1 (fault_in s.next slot))))
       go true first p q = same 1
       go false true p q = either Steady (eqb (fault_in s.next slot) 0) _ _ (on_q (eqb-true _ _ q)) (same _)
       go false false p q = either Steady (eqb (fault_in s.next slot) 0) _ _ (on_t (eqb-false _ _ p)) (same _)
