@@ -1,8 +1,5 @@
 -- Laws of feeding: any cuts, a stopped walk, a short piece, a whole record.
-use Rattle.std.specs.Prelude.{ℕ, ◌+◌, ◌-◌, ◌≤◌, ◌<◌, ◌≡◌, Bool, true, false, cond, length, take, drop, ltb, eqb}
-use mathlib.Core.List.{List, [], ◌∷◌, ◌++◌, append-nil, append_assoc}
-use Rattle.std.proofs.Math.Path.{refl, ap}
-use Rattle.std.proofs.Common.{sym, ◌∙◌, arith, ltb-false, eqb-true, length-append, length-take, length-drop, take-append-drop, drop-drop, take_all, lit≤, lit<}
+use Rattle.std.proofs.Common.{ℕ, ◌+◌, ◌-◌, ◌≤◌, ◌<◌, ◌≡◌, Bool, true, false, cond, length, take, drop, ltb, eqb, refl, ap, List, [], ◌∷◌, ◌++◌, append-nil, append_assoc, sym, ◌∙◌, arith, ltb-false, eqb-true, length-append, length-take, length-drop, take-append-drop, drop-drop, take_all, lit≤, lit<}
 use Rattle.laws.specs.Choice.{on_eq, off_eq, either}
 use Rattle.structure.specs.Slots.{width_at}
 use Rattle.forwarding.specs.Put.{put, put_none, put_put_at}

@@ -1,9 +1,12 @@
 -- The reader's state, and what each call makes of it, whatever state is handed in.
-use Rattle.std.specs.Prelude.{ℕ, ◌+◌, min, ◌≡◌, Bool, ◌&&◌, cond, List, [], ◌∷◌, ◌++◌, eqb, ltb, length, take, replicate}
+use Rattle.std.specs.Prelude.{ℕ, Result, Ok, Err, ◌+◌, min, ◌≡◌, Bool, ◌&&◌, cond, List, [], ◌∷◌, ◌++◌, eqb, ltb, length, take, replicate}
 use Rattle.charset.specs.Table.{is_page}
 use Rattle.fields.specs.Lists.{is_taken}
 use Rattle.structure.specs.Slots.{width_at}
 use Rattle.judge.specs.Verdict.{refused}
+use Rattle.judge.specs.Refusal.{verdict_in}
+use Rattle.judge.specs.declared.Refusal.{Refusal}
+use Rattle.judge.specs.declared.Totals.{Totals}
 use Rattle.judge.specs.declared.Verdict.{Verdict}
 use Rattle.forwarding.specs.Put.{put}
 use Rattle.tally.specs.declared.Tally.{Tally}
@@ -99,6 +102,11 @@ or_taken_by v number changes taken =
 
 unfoldable pub found_of : Reader → List ℕ → Answer
 found_of r taken = or_taken_by (judged_of r) r.tally.number r.tally.changes taken
+
+-- the answer that an end comes to: the changes are those of a sound file
+abbrev pub answer_in : ℕ → Result Totals Refusal → Answer
+answer_in changes (Ok t) = answered (verdict_in (Ok t)) changes
+answer_in changes (Err r) = answered (verdict_in (Err r)) 0
 
 abbrev pub ended_by : Reader → Answer → Reader
 ended_by r answer =

@@ -1,16 +1,17 @@
 // The judge of a file that arrives in cuts. A reader is a value: each cut is handed in with it, and it comes back changed.
 #![tactic(auto)]
 
-ghost use Rattle.std.specs.Prelude.{◌≡◌, [], ◌++◌, ◌+◌, ◌-◌, ◌≤◌, ◌<◌, length, take};
+ghost use Rattle.std.specs.Prelude.{◌≡◌, [], ◌++◌, ◌+◌, ◌-◌, ◌≤◌, ◌<◌, length, take, IfErr};
 ghost use Rattle.laws.specs.Found.{nonzero};
 ghost use Rattle.structure.specs.Slots.{width_at};
 ghost use Rattle.forwarding.specs.Put.{put};
 ghost use Rattle.tally.specs.Settle.{settle_of, Steady};
-ghost use Rattle.judge.specs.Verdict.{refused};
-ghost use Rattle.reader.specs.State.{answered, counted_of, in_order, mid, view, eat, packed, judged_of, found_of, NewAs, FedAs, EndedAs};
+ghost use Rattle.judge.specs.Refusal.{number_of, verdict_in};
+ghost use Rattle.reader.specs.State.{answer_in, counted_of, in_order, mid, view, eat, packed, judged_of, found_of, NewAs, FedAs, EndedAs};
 ghost use Rattle.reader.specs.Eats.{ready_of, Ate};
 
-use judge::Verdict;
+use judge::{Refusal, Totals, Verdict};
+use structure::{Fault, Misfit};
 use tally::Tally;
 
 // The judge's answer, and how many characters the table changes in a sound file.
@@ -25,7 +26,8 @@ pub struct Answer {
 #[derive(Clone, Copy)]
 pub struct Reader {
     pub page: u32,
-    // 0 while cuts may come; from the first end on, another number.
+    // 0 while cuts may come; from the first end on, another number. That and the answer, in place of an answer or none, are
+    // C's layout.
     pub ended: u32,
     // The bytes so far, up to one more than a file may have.
     pub bytes: usize,
@@ -33,7 +35,7 @@ pub struct Reader {
     pub tally: Tally,
     // From the first end on, its answer.
     pub answer: Answer,
-    // The unfinished record: the first `have` of the bytes held.
+    // The unfinished record: the first `have` of the bytes held. A length beside its bytes is C's layout.
     pub have: usize,
     pub held: [u8; 768],
 }
@@ -50,13 +52,7 @@ pub struct Read {
 fn counted(bytes: usize, more: usize) -> usize
     ensures { result ≡ counted_of bytes more }
 {
-    if 7679745 < bytes {
-        return 7679745;
-    }
-    if 7679745 - bytes < more {
-        return 7679745;
-    }
-    bytes + more
+    bytes.saturating_add(more).min(7679745)
 }
 
 // The width of the next slot, where the bytes left fill it.
@@ -130,17 +126,14 @@ fn in_order(tally: Tally, have: usize) -> bool
     tally.is_steady() & (have < structure::width_at(tally.next))
 }
 
-fn told(verdict: Verdict, changes: usize) -> Answer
-    ensures { result ≡ answered verdict changes }
+// The changes are those of a sound file.
+fn told(found: Result<Totals, Refusal>, changes: usize) -> Answer
+    ensures { result ≡ answer_in changes found }
 {
-    Answer { verdict, changes }
-}
-
-// A refusal at record 0.
-fn refusal(number: usize) -> Answer
-    ensures { result ≡ answered (refused number 0 0) 0 }
-{
-    told(judge::refusal(number, 0, 0), 0)
+    Answer {
+        verdict: Verdict::from(found),
+        changes: if found.is_ok() { changes } else { 0 },
+    }
 }
 
 impl Reader {
@@ -153,7 +146,10 @@ impl Reader {
             ended: 0,
             bytes: 0,
             tally: Tally::new(),
-            answer: refusal(0),
+            answer: Answer {
+                verdict: Verdict::refused(0, 0, 0),
+                changes: 0,
+            },
             have: 0,
             held: [0; 768],
         }
@@ -211,31 +207,32 @@ impl Reader {
     }
 
     #[tactic(auto, unfolding(crate::specs::State::judged_of))]
-    fn judged(self) -> Verdict
-        ensures { result ≡ judged_of self }
+    fn judged(self) -> Result<Totals, Refusal>
+        ensures answer { verdict_in result ≡ judged_of self }
+        ensures real { IfErr result (λ r. number_of r ≡ 0 → ⊥) }
     {
         if !charset::is_page(self.page) {
-            return judge::refusal(7, 0, 0);
+            return Err(Refusal::NoSuchPage);
         }
         if !in_order(self.tally, self.have) {
-            return judge::refusal(2, 0, 0);
+            return Err(Refusal::from(Misfit {
+                fault: Fault::CutShort,
+                rec: 0,
+            }));
         }
         self.tally
             .conclude(self.page, self.bytes, &self.held[..self.have])
     }
 
     #[tactic(auto, unfolding(crate::specs::State::found_of))]
-    fn found(self, taken: &[u64]) -> Answer
-        ensures { result ≡ found_of self taken.now }
+    fn found(self, taken: &[u64]) -> Result<Totals, Refusal>
+        ensures { answer_in self.tally.changes result ≡ found_of self taken.now }
     {
-        let verdict = self.judged();
-        if verdict.number != 0 {
-            return told(verdict, 0);
-        }
+        let totals = self.judged()?;
         if fields::taken(taken, self.tally.number) {
-            return refusal(50);
+            return Err(Refusal::Taken);
         }
-        told(verdict, self.tally.changes)
+        Ok(totals)
     }
 
     // The first end answers by its own list; every later one answers the same.
@@ -244,7 +241,7 @@ impl Reader {
         ensures { EndedAs self taken.now result }
     {
         if self.ended == 0 {
-            self.answer = self.found(taken);
+            self.answer = told(self.found(taken), self.tally.changes);
             self.ended = 1;
         }
         Read {

@@ -3,7 +3,7 @@
 
 ghost use Rattle.std.specs.Prelude.{◌≡◌, ◌≤◌, ◌<◌, length};
 ghost use Rattle.records.specs.declared.Span.{Span};
-ghost use Rattle.records.specs.Inside.{Held, Inside, q_inside, t_inside, z_inside};
+ghost use Rattle.records.specs.Inside.{Held, Inside, q_inside, t_inside, z_inside, q_behind, t_behind, z_behind};
 ghost use Rattle.records.specs.Places.{◌to◌, record_at, line_of, PartOf, q_place, t_place, z_place, q_text, t_text};
 
 // A place in a record: the first offset, and the one after the last.
@@ -44,7 +44,7 @@ pub fn line(field: Span, k: usize) -> Span
     }
 }
 
-// The fields of a kind of record of N bytes: where each stands, and that it lies in the record.
+// The fields of a kind of record of N bytes: where each stands, and that it lies in the record, behind its head.
 pub trait Field<const N: usize> {
     ghost place: { Self → Span };
 
@@ -52,6 +52,8 @@ pub trait Field<const N: usize> {
         ensures { result ≡ place self };
 
     ghost inside: { (f : Self) → Inside N (place f) };
+
+    ghost behind: { (f : Self) → 5 ≤ (place f).start };
 }
 
 // The bytes of a field.
@@ -94,6 +96,8 @@ impl Field<256> for QField {
     ghost place = { q_place };
 
     ghost inside = { q_inside };
+
+    ghost behind = { q_behind };
 
     fn place(self) -> Span {
         match self {
@@ -184,6 +188,8 @@ impl Field<768> for TField {
 
     ghost inside = { t_inside };
 
+    ghost behind = { t_behind };
+
     fn place(self) -> Span {
         match self {
             TField::T3 => to(5, 12),
@@ -272,6 +278,8 @@ impl Field<256> for ZField {
     ghost place = { z_place };
 
     ghost inside = { z_inside };
+
+    ghost behind = { z_behind };
 
     fn place(self) -> Span {
         match self {
