@@ -1,7 +1,7 @@
 // Sorting a file's payments: those that break a rule come back, and the others go on.
 #![tactic(auto)]
 
-ghost use Rattle.std.specs.Prelude.{◌≡◌, ◌+◌, ◌*◌, ◌≤◌, ◌<◌, Ok, IfErr, is_ok, length};
+ghost use Rattle.std.specs.Prelude.{◌≡◌, ℕ, ◌+◌, ◌*◌, ◌≤◌, ◌<◌, Ok, IfErr, is_ok, length};
 ghost use Rattle.laws.specs.Found.{nonzero};
 ghost use Rattle.records.specs.Places.{t_place};
 ghost use Rattle.rules.specs.Told.{offset};
@@ -131,9 +131,9 @@ fn with_one(had: Figures, t: &[u8; 768]) -> Figures
     }
 }
 
-// What the kept payments of a file with n T records come to.
-fn count_kept(terms: &Terms<'_>, file: &[u8], n: usize) -> Figures
-    requires { structure_of file.now ≡ Fits n }
+// What the kept payments of a file that fits come to.
+fn count_kept(terms: &Terms<'_>, file: &[u8]) -> Figures
+    requires { (n : ℕ) × (structure_of file.now ≡ Fits n) }
     ensures { result ≡ figures_of terms.now.page file.now terms.now.transfer.now terms.now.cheque.now }
 {
     let key = payments::key(structure::whole(file, 1));
@@ -142,8 +142,7 @@ fn count_kept(terms: &Terms<'_>, file: &[u8], n: usize) -> Figures
         euros: 0,
         changes: count::q_record(structure::whole(file, 0)),
     };
-    for k in 1..n + 1 {
-        let t = structure::whole(file, k);
+    for t in count::t_records(file) {
         if first_rule(terms, key, t).is_none() {
             sum = with_one(sum, t);
         }
@@ -194,13 +193,14 @@ fn z_rules(terms: &Terms<'_>, file: &[u8], n: usize, euros: u64) -> Result<(), B
 }
 
 // Behind Q, which breaks no rule: amounts, then Z, and then the payments one by one.
+#[tactic(auto, using(crate::proofs::Answers::told_43, crate::proofs::Answers::told_going))]
 fn behind_q(terms: &Terms<'_>, file: &[u8], n: usize, euros: u64) -> Result<Going, Refusal>
     requires { (structure_of file.now ≡ Fits n) × (euros ≡ euro_sum file.now n) }
     ensures { sorted_of result ≡ behind_q terms.now.page file.now n terms.now.transfer.now terms.now.cheque.now }
 {
     amounts(file, n)?;
     z_rules(terms, file, n, euros)?;
-    let kept = count_kept(terms, file, n);
+    let kept = count_kept(terms, file);
     if kept.payments == 0 {
         return Err(Refusal::NothingKept);
     }
