@@ -3,10 +3,10 @@ use Rattle.std.specs.Prelude.{ℕ, zero, suc, ◌+◌, ◌*◌, ◌/◌, ◌^◌
 use Prim.Native.Char.{code}
 use Rattle.std.specs.List.{list_all, list_any}
 use Rattle.std.specs.Simd.{first_chunks}
-use Rattle.std.proofs.Common.{sym, ap, ap₂, ◌∙◌, pow-suc, add-one, arith, leb-true, eqb-true, eq-eqb, ne_eqb, lit<, drop-drop}
+use Rattle.std.proofs.Common.{sym, ap, ap₂, ◌∙◌, pow-suc, add-one, arith, leb-true, eqb-true, lit<, drop-drop}
 use Rattle.std.proofs.Math.Bool.{and-true, and_assoc, or_assoc, and-false, or-true}
 use Rattle.std.proofs.Math.Seq.{take-suc}
-use Rattle.std.proofs.lemmas.Bool.{false≢true, eqb-false}
+use Rattle.std.proofs.lemmas.Bool.{false≢true}
 use Rattle.std.proofs.lemmas.List.{length-take}
 use Rattle.std.proofs.Math.Nat.{pow-le-pow_right}
 use Rattle.laws.specs.Ascii.{ascii}

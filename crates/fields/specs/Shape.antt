@@ -1,5 +1,5 @@
 -- BIC shape as the code asks for it: of the bytes as they stand.
-use Rattle.std.specs.Prelude.{ℕ, ◌≡◌, refl, Bool, true, false, ◌&&◌, ◌||◌, cond, List, take, drop}
+use Rattle.std.specs.Prelude.{ℕ, ◌≡◌, refl, Bool, true, false, ◌&&◌, ◌||◌, List, take, drop}
 use Rattle.std.proofs.Math.Bool.{or-true}
 use Rattle.laws.specs.Choice.{both}
 use Rattle.charset.specs.Table.{text}
