@@ -6,12 +6,12 @@ use Rattle.records.specs.declared.Span.{Span}
 use Rattle.forwarding.specs.Text.{q_texts, t_texts}
 use Rattle.forwarding.specs.Forwarded.{notes_of}
 use Rattle.forwarding.specs.Between.{between}
-use Rattle.forwarding.specs.Changes.{changes}
+use Rattle.forwarding.specs.Changes.{changes, changes_few}
 use Rattle.forwarding.specs.Fields.{field_changes, field_count, changes_more}
 use Rattle.forwarding.specs.Numbered.{texts_below, texts_more}
 use Rattle.forwarding.specs.Pieces.{noted_in, noted_few, noted_page, noted_more, q_noted, t_noted, all_noted}
 use Rattle.forwarding.specs.Sized.{z_at, Sized, Begins, fits, begins_first, begins_next, begins_last}
-use Rattle.forwarding.specs.Found.{same_part}
+use Rattle.forwarding.specs.Found.{same_part, t_short}
 
 -- Q5 alone; the fields of T below k, and field k
 module _ (rec : List ℕ) {s : Span} {field : List ℕ} where
@@ -23,6 +23,10 @@ module _ (rec : List ℕ) {s : Span} {field : List ℕ} where
   count_field k {n} {c} low high at bytes p q =
       let here : c ≡ changes (part (t_text k) rec) = q ∙ ap changes (same_part at rec bytes) in
       omega (arith, p, here, changes_more (texts_below k) (t_text k ∷ []) rec, ap (λ (l : List Span). field_changes l rec) (texts_more k low high))
+
+  -- and in field k there are few
+  pub few_field : (k : ℕ) {c : ℕ} → 2 ≤ k → k < 10 → s ≡ t_text k → field ≡ part s rec → c ≡ changes field → c ≤ 140
+  few_field k low high at bytes q = omega (arith, q, changes_few field, t_short k low high at rec bytes)
 
 -- n is the count of the records before place `at`
 pub record Counted (file : List ℕ) (n at : ℕ) : Type 0 where
@@ -62,11 +66,9 @@ module _ {file : List ℕ} (sized : Sized file) where
         let l = fits sized b more in
         let here : c ≡ length (noted_in 0 at (at + 768) file) =
         e ∙ field_count t_texts at (between at (at + 768) file) ∙ sym (ap length (t_noted 0 file at b.turn l)) in
-        record {
-          begins = begins_next sized b more;
-          so_far =
-              omega (arith, counted.so_far, here, ap length (noted_more 0 file 0 at (at + 768) (omega arith) (omega arith) (omega arith)), length-append (noted_in 0 0 at file) (noted_in 0 at (at + 768) file));
-        }
+        let more_notes = ap length (noted_more 0 file 0 at (at + 768) (omega arith) (omega arith) (omega arith)) in
+        let sum = length-append (noted_in 0 0 at file) (noted_in 0 at (at + 768) file) in
+        record { begins = begins_next sized b more; so_far = omega (arith, counted.so_far, here, more_notes, sum) }
 
   -- the next record has some
   pub next_some : {at : ℕ} → Counted file 0 at → at < z_at file → (field_changes t_texts (between at (at + 768) file) ≡ 0 → ⊥)

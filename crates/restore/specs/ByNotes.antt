@@ -11,11 +11,20 @@ use Rattle.laws.specs.Steps.{fold, next}
 use Rattle.charset.specs.Table.{OwnReplacement}
 use Rattle.forwarding.specs.Forwarded.{differs}
 use Rattle.forwarding.specs.Merge.{merged, becomes, accepts}
+use Rattle.restore.specs.declared.Note.{Note}
 
 -- a note about place `from` or a later one of the bytes g: its byte is changed there, and becomes the byte that g has
 abbrev pub note_fits : (ℕ → ℕ) → (ℕ → Bool) → List ℕ → ℕ → ℕ → Bool
 note_fits r is_text g from v =
     leb from (v / 256) && (ltb (v / 256) (length g) && becomes r is_text (v / 256) (v % 256) (get_or g (v / 256) 0))
+
+-- the same by the note's place and byte
+abbrev pub note_of : ℕ → Note
+note_of v = record { place = v / 256; byte = v % 256 }
+
+abbrev pub fits : (ℕ → ℕ) → (ℕ → Bool) → List ℕ → ℕ → Note → Bool
+fits r is_text g from n =
+    leb from n.place && (ltb n.place (length g) && becomes r is_text n.place n.byte (get_or g n.place 0))
 
 -- notes by rising place
 abbrev pub notes_fit : (ℕ → ℕ) → (ℕ → Bool) → List ℕ → ℕ → List ℕ → Bool

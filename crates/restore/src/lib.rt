@@ -1,14 +1,14 @@
 // Restore: the original of a forwarded file and its notes.
 #![tactic(auto)]
 
-ghost use Rattle.std.specs.Prelude.{◌≡◌, true, ◌≤◌, ◌<◌, length};
+ghost use Rattle.std.specs.Prelude.{◌≡◌, true, ◌≤◌, ◌<◌, ◌&&◌, leb, ltb, length};
 ghost use Rattle.charset.specs.Table.{rep};
 ghost use Rattle.forwarding.specs.Text.{t_texts, lies, text_at};
 ghost use Rattle.forwarding.specs.Put.{put};
-ghost use Rattle.restore.specs.ByNotes.{note_fits, notes_fit, in_file, put_notes};
+ghost use Rattle.restore.specs.ByNotes.{fits, note_of, notes_fit, in_file, put_notes};
 ghost use Rattle.restore.specs.Restored.{is_yielded, RestoredAs};
 
-use records::{Q, T, Z};
+use records::{Q, Span, T, Z};
 
 // Number 0: restored. Else 7, 60 or 70. The record is always 0.
 #[repr(C)]
@@ -18,53 +18,60 @@ pub struct Restored {
     pub rec: usize,
 }
 
+// A note: a place of the file, and the byte that stood there.
+#[derive(Clone, Copy)]
+struct Note {
+    place: usize,
+    byte: u8,
+}
+
+impl From<u32> for Note {
+    ghost from_gives = { λ v n. n ≡ note_of v };
+
+    fn from(note: u32) -> Note {
+        Note {
+            place: (note / 256) as usize,
+            byte: (note % 256) as u8,
+        }
+    }
+}
+
+// Whether a place of a record begins at i or before it, and ends after it.
+fn holds(at: Span, i: usize) -> bool
+    ensures { result ≡ leb at.start i && ltb i at.end }
+{
+    (at.start <= i) & (i < at.end)
+}
+
 // Whether an offset of a T record lies in one of its text fields.
 fn in_text(offset: usize) -> bool
     ensures { result ≡ lies t_texts offset }
 {
-    let mut found = false;
-    let mut k = 2;
-    while k < 10 {
-        let s = T::text(k);
-        let start = s.start;
-        let end = s.end;
-        found = found | ((start <= offset) & (offset < end));
-        k += 1;
-    }
-    found
+    (2..10).any(|k| holds(T::text(k), offset))
 }
 
 // Whether a place of a file of n bytes is text.
 fn is_text(n: usize, i: usize) -> bool
-    requires { i < 16777216 }
     ensures { result ≡ text_at n i }
 {
-    if n <= i + Z::LENGTH {
+    if n.saturating_sub(Z::LENGTH) <= i {
         return false;
     }
     if i < Q::LENGTH {
-        let s = Q::text(1);
-        let start = s.start;
-        let end = s.end;
-        return (start <= i) & (i < end);
+        return holds(Q::text(1), i);
     }
     in_text((i - Q::LENGTH) % T::LENGTH)
 }
 
 // A note about place `from` or a later one: its byte is changed there, and becomes the byte that the file has.
-fn note_fits(page: u32, file: &[u8], from: usize, note: u32) -> bool
-    ensures { result ≡ note_fits (rep page) (text_at (length file.now)) file.now from note }
+fn note_fits(page: u32, file: &[u8], from: usize, note: Note) -> bool
+    ensures { result ≡ fits (rep page) (text_at (length file.now)) file.now from note }
 {
-    let place = (note / 256) as usize;
-    let was = (note % 256) as u8;
-    if place < from {
+    if note.place < from || !is_text(file.len(), note.place) {
         return false;
     }
-    if !is_text(file.len(), place) {
-        return false;
-    }
-    let b = charset::replaced(page, was);
-    (b != was) & (b == file[place])
+    let b = charset::replaced(page, note.byte);
+    (b != note.byte) & (b == file[note.place])
 }
 
 // Every note fits, by rising place.
@@ -72,14 +79,12 @@ fn notes_fit(page: u32, file: &[u8], notes: &[u32]) -> bool
     ensures { result ≡ notes_fit (rep page) (text_at (length file.now)) file.now 0 notes.now }
 {
     let mut from = 0;
-    let mut j = 0;
-    while j < notes.len() {
-        let note = notes[j];
+    for &code in notes {
+        let note = Note::from(code);
         if !note_fits(page, file, from, note) {
             return false;
         }
-        from = (note / 256) as usize + 1;
-        j += 1;
+        from = note.place + 1;
     }
     true
 }
@@ -89,12 +94,9 @@ fn put_back(notes: &[u32], out: &mut [u8])
     requires { in_file (length out.old) notes.now ≡ true }
     ensures { out.new ≡ put_notes out.old notes.now }
 {
-    let mut k = 0;
-    while k < notes.len() {
-        let note = notes[k];
-        let place = (note / 256) as usize;
-        out[place] = (note % 256) as u8;
-        k += 1;
+    for &note in notes {
+        let Note { place, byte } = Note::from(note);
+        out[place] = byte;
     }
 }
 

@@ -1,20 +1,11 @@
-use mathlib.Core.Path.{refl}
-use Rattle.laws.specs.Scan.{run, from}
-use Rattle.restore.specs.Found.{any_on, any_over}
-use Rattle.restore.proofs.in_text.Invariants.{hits}
+use Rattle.std.proofs.Common.{ℕ, ◌&&◌, leb, ltb, refl, rules, tests}
+use Rattle.std.proofs.lemmas.Iterator.{YieldsList-from_range}
+use Rattle.std.proofs.lemmas.Iterator.Search.{any_from_yields_List}
+use Rattle.records.specs.Places.{t_text}
 use Rattle.restore.proofs.in_text.Goals as goal
-
-pub loop-k-init : goal.loop-k-init
-unfolding run from
-loop-k-init c = refl
-
-pub loop-k-preserved : goal.loop-k-preserved
-loop-k-preserved c =
-    let l = c.loop-k in
-    let offset = c.args.offset in
-    rw c.text-s.ensures (any_on (hits offset) l.k 10 l.found _ c.loop-k-test.true l.invariant)
 
 pub returns : goal.returns
 returns c =
-    let l = c.loop-k in
-    any_over (hits c.args.offset) l.k 10 l.found _ c.loop-k-test.false l.invariant
+    let i = c.args.offset in
+    any_from_yields_List (λ (k : ℕ). leb (t_text k).start i && ltb i (t_text k).end) _ _ _ c.any.ensures.ran
+    (YieldsList-from_range 2 10 8 refl refl) (λ x b q k. search (rules, tests))

@@ -1,11 +1,12 @@
+use Rattle.std.proofs.Common.{arith}
 use Rattle.restore.specs.Found.{text_past, text_in_q, text_in_t}
 use Rattle.restore.proofs.is_text.Goals as goal
 
-pub returns-then-n-i : goal.returns-then-n-i
-returns-then-n-i c = text_past _ _ c.if-n-i.true
+pub returns-then-saturating_sub-i : goal.returns-then-saturating_sub-i
+returns-then-saturating_sub-i c = grind (arith, text_past)
 
 pub returns-then-i-lt-LENGTH : goal.returns-then-i-lt-LENGTH
-returns-then-i-lt-LENGTH c = text_in_q _ _ c.if-n-i.false c.if-i-lt-LENGTH.true c.text-s.ensures
+returns-then-i-lt-LENGTH c = grind (arith, text_in_q)
 
 pub returns : goal.returns
-returns c = text_in_t _ _ c.if-n-i.false c.if-i-lt-LENGTH.false c.in_text.ensures
+returns c = grind (arith, text_in_t)

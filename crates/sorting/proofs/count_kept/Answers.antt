@@ -1,61 +1,66 @@
-use borrow.Author.Rules.{rules}
-use native.Mathlib.Omega.{arith}
-use Prim.Native.Nat.{ℕ, ◌+◌}
-use mathlib.Core.Path.{◌≡◌, sym, ap, ap₂, subst, ◌∙◌}
+use Rattle.std.proofs.Common.{ap, ap₂, subst, ◌∙◌, sym, arith, lit<, ◌≡◌, ◌+◌, ◌<◌, ℕ, not, get_or, []}
 use Rattle.forwarding.specs.Text.{q_texts}
 use Rattle.forwarding.specs.Fields.{field_changes}
+use Rattle.laws.specs.Found.{nonzero}
 use Rattle.payments.specs.Rules.{key_of}
-use Rattle.sorting.specs.Kept.{first_of}
-use Rattle.sorting.specs.Frame.{fit, found, q_found, t_found}
-use Rattle.sorting.specs.Counting.{with_one, CountedIn, counted_q, counted_next, counted_all}
+use Rattle.structure.specs.Slots.{slot_at}
+use Rattle.sorting.specs.Kept.{first_of, rule_in}
+use Rattle.sorting.specs.Frame.{fit, sized, turns_count, turn_slot, q_there, t_there}
+use Rattle.sorting.specs.Counting.{with_one, CountedIn, counted_q, counted_small, counted_kept, counted_returned, counted_all}
 use Rattle.sorting.proofs.count_kept.Goals as goal
+use Rattle.sorting.proofs.count_kept.Goals.{then-is_none, else-is_none}
 
-pub loop-k-init : goal.loop-k-init
-loop-k-init c =
+pub whole-requires : goal.whole-requires
+whole-requires c = let fits = c.requires in (lit< tt, t_there c.args.file.now fits.0 fits.1 1 (omega arith) (fit c.args.file.now fits.0 fits.1).some)
+
+pub whole-requires-2 : goal.whole-requires-2
+whole-requires-2 c = (lit< tt, q_there c.args.file.now c.requires.0 c.requires.1)
+
+pub t_records-t-items-requires : goal.t_records-t-items-requires
+t_records-t-items-requires c = sized c.args.file.now c.requires.0 c.requires.1
+
+pub loop-t-init : goal.loop-t-init
+loop-t-init c =
     let a = c.args in
-    (search rules, counted_q a.page a.file.now a.transfer.now a.cheque.now a.n c.requires (c.q_record.ensures ∙ ap (field_changes q_texts) c.slot-2.ensures))
-
-pub slot-t-requires : goal.slot-t-requires
-slot-t-requires c =
-    found c.args.file.now c.args.n c.requires (c.loop-k.k + 1) (omega arith)
+    counted_q a.page a.file.now a.transfer.now a.cheque.now c.requires.0 c.requires.1 (c.q_record.ensures ∙ ap (field_changes q_texts) c.whole-2.ensures)
 
 pub with_one-sum-requires : goal.with_one-sum-requires
 with_one-sum-requires c =
     let a = c.args in
-    let l = c.loop-k in (
-      (t_found c.args.file.now c.args.n c.requires (c.loop-k.k + 1) (omega arith) (omega arith) c.slot-t.ensures),
-      (counted_next a.page a.file.now a.transfer.now a.cheque.now a.n c.requires l.k c.loop-k-test.true l.invariant.1 _ (let a = c.args in
-          c.first_rule-rule.ensures
-          ∙ ap₂ (first_of a.page a.transfer.now a.cheque.now) (c.key-key.ensures.bytes ∙ ap key_of c.slot.ensures) c.slot-t.ensures)).0,
-    )
+    let more : c.loop-t.t-index < c.requires.0 = omega (arith, turns_count a.file.now c.requires.0 c.requires.1 c.t_records-t-items.ensures) in
+    counted_small a.page a.file.now a.transfer.now a.cheque.now c.requires.0 c.requires.1 c.loop-t.t-index more c.loop-t.invariant
 
-pub loop-k-preserved : goal.loop-k-preserved
-loop-k-preserved c =
+-- the payment of this turn, and what `first_rule` says of it
+more : (c : goal.Joined-is_none) → c.loop-t.t-index < c.requires.0
+more c = omega (arith, turns_count c.args.file.now c.requires.0 c.requires.1 c.t_records-t-items.ensures)
+
+is : (c : goal.Joined-is_none) → get_or c.t_records-t-items.result.now c.loop-t.t-index [] ≡ slot_at c.args.file.now (c.loop-t.t-index + 1)
+is c = turn_slot c.args.file.now c.requires.0 c.requires.1 c.t_records-t-items.ensures c.loop-t.t-index (more c)
+
+told : (c : goal.Joined-is_none)
+    → c.first_rule.result ≡ nonzero (rule_in c.args.page c.args.file.now c.args.transfer.now c.args.cheque.now (slot_at c.args.file.now (c.loop-t.t-index + 1)))
+told c =
     let a = c.args in
-    let l = c.loop-k in
-    let next = (counted_next a.page a.file.now a.transfer.now a.cheque.now a.n c.requires l.k c.loop-k-test.true l.invariant.1 _ (let a = c.args in
-    c.first_rule-rule.ensures
-    ∙ ap₂ (first_of a.page a.transfer.now a.cheque.now) (c.key-key.ensures.bytes ∙ ap key_of c.slot.ensures) c.slot-t.ensures)).1 in
-    (search rules, subst (CountedIn a.page a.file.now a.transfer.now a.cheque.now (l.k + 1)) (sym (c.with_one-sum.ensures ∙ ap (with_one l.sum c.first_rule-rule.result) c.slot-t.ensures)) next)
+    c.first_rule.ensures ∙ ap nonzero (ap₂ (first_of a.page a.transfer.now a.cheque.now) (c.key-key.ensures.bytes ∙ ap key_of c.whole.ensures) (is c))
+
+pub loop-t-preserved : goal.loop-t-preserved
+loop-t-preserved c =
+    let a = c.args in
+    let l = c.loop-t in
+    let counted = CountedIn a.page a.file.now a.transfer.now a.cheque.now (l.t-index + 1) in
+    elim c.if-is_none.branch [
+      | then-is_none w ↦
+          subst counted (sym (w.sum-is ∙ w.with_one-sum.ensures ∙ ap (with_one l.sum 0) (is c)))
+          (counted_kept a.page a.file.now a.transfer.now a.cheque.now c.requires.0 c.requires.1 l.t-index (more c) l.invariant _ (told c) (c.is_none.ensures ∙ ap not w.if-is_none.true))
+      | else-is_none w ↦
+          subst counted (sym w.sum-is)
+          (counted_returned a.page a.file.now a.transfer.now a.cheque.now c.requires.0 c.requires.1 l.t-index (more c) l.invariant _ (told c) (c.is_none.ensures ∙ ap not w.if-is_none.false))
+    ]
 
 pub returns : goal.returns
 returns c =
     let a = c.args in
-    let l = c.loop-k in
-    let all : l.k ≡ a.n = omega (arith, c.loop-k-test.false, l.invariant.0) in
-    counted_all a.page a.file.now a.transfer.now a.cheque.now a.n c.requires (subst (λ (m : ℕ). CountedIn a.page a.file.now a.transfer.now a.cheque.now m l.sum) all l.invariant.1)
-
-pub slot-requires : goal.slot-requires
-slot-requires c = found c.args.file.now c.args.n c.requires 1 (omega arith)
-
-pub key-key-requires : goal.key-key-requires
-key-key-requires c = t_found c.args.file.now c.args.n c.requires 1 (omega arith) (fit c.args.file.now c.args.n c.requires).some c.slot.ensures
-
-pub slot-requires-2 : goal.slot-requires-2
-slot-requires-2 c = found c.args.file.now c.args.n c.requires 0 (omega arith)
-
-pub q_record-requires : goal.q_record-requires
-q_record-requires c = q_found c.args.file.now c.args.n c.requires c.slot-2.ensures
-
-pub first_rule-rule-requires : goal.first_rule-rule-requires
-first_rule-rule-requires c = ((t_found c.args.file.now c.args.n c.requires (c.loop-k.k + 1) (omega arith) (omega arith) c.slot-t.ensures), c.key-key.ensures.long)
+    let l = c.loop-t in
+    let all : l.t-index ≡ c.requires.0 = omega (arith, turns_count a.file.now c.requires.0 c.requires.1 c.t_records-t-items.ensures) in
+    counted_all a.page a.file.now a.transfer.now a.cheque.now c.requires.0 c.requires.1
+    (subst (λ (m : ℕ). CountedIn a.page a.file.now a.transfer.now a.cheque.now m l.sum) all l.invariant)
