@@ -185,50 +185,24 @@ fn figures_first(rt: &impl Print) -> io::Result<()> {
     Ok(())
 }
 
+// One more file, of 160 payments and 16000 euros.
+fn one_more(rt: &impl Print, edge: &str, book: Book, number: u64, day: u32) -> io::Result<()> {
+    totals(rt, edge, book, number, day, 160, 16000)?;
+    Ok(())
+}
+
 fn sums(rt: &impl Print) -> io::Result<()> {
-    let one = totals(
-        rt,
-        "1 on day 1, 10 payments and 1000 euros",
-        Book::new(),
-        1,
-        1,
-        10,
-        1000,
-    )?;
+    let edge = "1 on day 1, 10 payments and 1000 euros";
+    let one = totals(rt, edge, Book::new(), 1, 1, 10, 1000)?;
     let two = totals(rt, "  2 on day 1, 20 and 2000", one, 2, 1, 20, 2000)?;
     let three = totals(rt, "  3 on day 2, 40 and 4000", two, 3, 2, 40, 4000)?;
     let four = totals(rt, "  4 on day 5, 80 and 8000", three, 4, 5, 80, 8000)?;
-    totals(rt, "    5 on day 4", four, 5, 4, 160, 16000)?;
-    totals(rt, "    4 on day 9", four, 4, 9, 160, 16000)?;
-    totals(rt, "    5 on day 6, two forgotten", four, 5, 6, 160, 16000)?;
-    totals(
-        rt,
-        "    5 on day 7, three forgotten",
-        four,
-        5,
-        7,
-        160,
-        16000,
-    )?;
-    totals(
-        rt,
-        "    5 on day 9, three forgotten",
-        four,
-        5,
-        9,
-        160,
-        16000,
-    )?;
-    totals(
-        rt,
-        "    5 on day 10, all forgotten",
-        four,
-        5,
-        10,
-        160,
-        16000,
-    )?;
-    Ok(())
+    one_more(rt, "    5 on day 4", four, 5, 4)?;
+    one_more(rt, "    4 on day 9", four, 4, 9)?;
+    one_more(rt, "    5 on day 6, two forgotten", four, 5, 6)?;
+    one_more(rt, "    5 on day 7, three forgotten", four, 5, 7)?;
+    one_more(rt, "    5 on day 9, three forgotten", four, 5, 9)?;
+    one_more(rt, "    5 on day 10, all forgotten", four, 5, 10)
 }
 
 fn main(rt: HostRuntime) -> io::Result<()> {
