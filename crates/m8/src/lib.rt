@@ -12,6 +12,7 @@ ghost use Rattle.m8.specs.Writing.{Left, heading_of};
 ghost use Rattle.m8.specs.Course.{Room};
 
 use judge::Refusal;
+use payments::Terms;
 use records::{Field, QField, TField};
 
 // The bytes of a record, and of the table of codes.
@@ -135,23 +136,16 @@ fn payment(
 }
 
 // The records of the returned ones of a file's payments.
-fn payments(
-    page: u32,
-    file: &[u8],
-    transfer: &[u8],
-    cheque: &[u8],
-    codes: &[u8; CODES],
-    out: &mut [u8],
-) -> usize
-    requires { ((n : ℕ) × (structure_of file.now ≡ Fits n)) × Room page file.now transfer.now cheque.now codes.now out.old }
-    ensures { Noted (records_of page file.now transfer.now cheque.now codes.now) 0 out.old out.new result }
+fn payments(terms: &Terms<'_>, file: &[u8], codes: &[u8; CODES], out: &mut [u8]) -> usize
+    requires { ((n : ℕ) × (structure_of file.now ≡ Fits n)) × Room terms.now.page file.now terms.now.transfer.now terms.now.cheque.now codes.now out.old }
+    ensures { Noted (records_of terms.now.page file.now terms.now.transfer.now terms.now.cheque.now codes.now) 0 out.old out.new result }
 {
     let q = structure::whole(file, 0);
     let key = payments::key(structure::whole(file, 1));
     let mut at = 0;
     for t in count::t_records(file) {
-        if let Some(rule) = sorting::first_rule(page, transfer, cheque, key, t) {
-            at = payment(page, q, t, rule, codes, out, at);
+        if let Some(rule) = sorting::first_rule(terms, key, t) {
+            at = payment(terms.page, q, t, rule, codes, out, at);
         }
     }
     at
@@ -159,18 +153,14 @@ fn payments(
 
 // Sorting's refusals, then 62 and 60; then a record for each returned payment.
 fn file_returned(
-    page: u32,
+    terms: &Terms<'_>,
     file: &[u8],
-    transfer: &[u8],
-    cheque: &[u8],
     codes: &[u8],
     out: &mut [u8],
 ) -> Result<usize, Refusal>
-    ensures { FiledAs page file.now transfer.now cheque.now codes.now out.old (filed_in result) out.new }
+    ensures { FiledAs terms.now.page file.now terms.now.transfer.now terms.now.cheque.now codes.now out.old (filed_in result) out.new }
 {
-    let count = sorting::sort(page, file, transfer, cheque)?
-        .payments
-        .returned as usize;
+    let count = sorting::sort(terms, file)?.payments.returned as usize;
     let Some(codes) = codes.as_array::<CODES>() else {
         return Err(Refusal::Codes);
     };
@@ -179,7 +169,7 @@ fn file_returned(
     }
     // where nothing comes back, the payments are not gone over again
     if count != 0 {
-        payments(page, file, transfer, cheque, codes, out);
+        payments(terms, file, codes, out);
     }
     Ok(count)
 }
@@ -195,5 +185,10 @@ pub fn records(
 ) -> Filed
     ensures { FiledAs page file.now transfer.now cheque.now codes.now out.old result out.new }
 {
-    Filed::from(file_returned(page, file, transfer, cheque, codes, out))
+    let terms = Terms {
+        page,
+        transfer,
+        cheque,
+    };
+    Filed::from(file_returned(&terms, file, codes, out))
 }
