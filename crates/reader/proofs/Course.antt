@@ -96,11 +96,7 @@ module _ (page : ℕ) (cuts : List Cut) where
   full_goes k z l = record { right = right; no_z = no_z (eqb k 0) refl }
     where
       right : fault_in k (slot_at file k) ≡ 0
-      right = go (eqb k 10000) z
-        where
-          go : (b : Bool) → ◌≡◌ {A = ℕ} (cond b 1 (fault_in k (slot_at file k))) 0 → fault_in k (slot_at file k) ≡ 0
-          go true e = absurd (omega arith)
-          go false e = e
+      right = grind (arith, nat_tests)
 
       w : WholeSlot k (slot_at file k)
       w = whole k (slot_at file k) right
