@@ -13,8 +13,7 @@ use Rattle.records.specs.Places.{◌to◌, record_at}
 use Rattle.structure.specs.Slots.{width_at, slot_at, place_is, slot_length, later_width}
 use Rattle.structure.specs.Walk.{letter_of, fault_in, stops, told, structure_of}
 use Rattle.structure.specs.Fits.{Fit, Tells, tells}
-use Rattle.structure.specs.declared.Shape.{Shape}
-use Rattle.structure.specs.declared.Shape.TheVariants.{Fits, Refused}
+use Rattle.structure.specs.Shape.{Shape, Fits, Refused}
 use Rattle.rules.specs.Faults.{q_fault, z_fault}
 use Rattle.payments.specs.Rules.{key_of}
 use Rattle.payments.specs.Faults.{t_fault}

@@ -6,12 +6,12 @@ use Rattle.records.specs.declared.Span.{Span}
 use Rattle.forwarding.specs.Text.{q_texts, t_texts}
 use Rattle.forwarding.specs.Forwarded.{notes_of}
 use Rattle.forwarding.specs.Between.{between}
-use Rattle.forwarding.specs.Changes.{changes}
+use Rattle.forwarding.specs.Changes.{changes, changes_few}
 use Rattle.forwarding.specs.Fields.{field_changes, field_count, changes_more}
 use Rattle.forwarding.specs.Numbered.{texts_below, texts_more}
 use Rattle.forwarding.specs.Pieces.{noted_in, noted_few, noted_page, noted_more, q_noted, t_noted, all_noted}
 use Rattle.forwarding.specs.Sized.{z_at, Sized, Begins, fits, begins_first, begins_next, begins_last}
-use Rattle.forwarding.specs.Found.{same_part}
+use Rattle.forwarding.specs.Found.{same_part, t_short}
 
 -- Q5 alone; the fields of T below k, and field k
 module _ (rec : List ℕ) {s : Span} {field : List ℕ} where
@@ -23,6 +23,10 @@ module _ (rec : List ℕ) {s : Span} {field : List ℕ} where
   count_field k {n} {c} low high at bytes p q =
       let here : c ≡ changes (part (t_text k) rec) = q ∙ ap changes (same_part at rec bytes) in
       omega (arith, p, here, changes_more (texts_below k) (t_text k ∷ []) rec, ap (λ (l : List Span). field_changes l rec) (texts_more k low high))
+
+  -- and in field k there are few
+  pub few_field : (k : ℕ) {c : ℕ} → 2 ≤ k → k < 10 → s ≡ t_text k → field ≡ part s rec → c ≡ changes field → c ≤ 140
+  few_field k low high at bytes q = omega (arith, q, changes_few field, t_short k low high at rec bytes)
 
 -- n is the count of the records before place `at`
 pub record Counted (file : List ℕ) (n at : ℕ) : Type 0 where

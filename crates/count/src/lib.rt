@@ -8,10 +8,11 @@ ghost use Rattle.forwarding.specs.Forwarded.{notes_of};
 ghost use Rattle.forwarding.specs.Changes.{changed, changes};
 ghost use Rattle.forwarding.specs.Fields.{field_changes};
 ghost use Rattle.forwarding.specs.Sized.{Sized};
+ghost use Rattle.forwarding.specs.Turns.{turns};
 
 use records::{Q, T, Z};
 
-// 1 for a character that is changed.
+// 1 for a character that is changed. A number, since it is added up, and moves the place of the next note, without jumps.
 pub fn changed(b: u8) -> u8
     ensures { result ≡ changed b }
 {
@@ -24,45 +25,41 @@ pub fn field(s: &[u8]) -> usize
     ensures { result ≡ changes s.now }
 {
     let mut n: u8 = 0;
-    let mut i = 0;
-    while i < s.len() {
-        n += changed(s[i]);
-        i += 1;
+    for b in s {
+        n += changed(*b);
     }
-    n as usize
+    usize::from(n)
 }
 
-// Whether a text has none. The loop decides at the end only, so that it is compiled to many bytes a step.
+// Whether a text has none. The fold ends with the text and no sooner, so that it is compiled to many bytes a step.
 pub fn none(s: &[u8]) -> bool
     ensures { result ≡ eqb (changes s.now) 0 }
 {
-    let mut ok = true;
-    let mut i = 0;
-    while i < s.len() {
-        ok = ok & charset::unchanged(s[i]);
-        i += 1;
-    }
-    ok
+    s.iter().fold(true, |ok, b| ok & charset::unchanged(*b))
 }
 
-pub fn q_record(rec: &[u8]) -> usize
-    requires { length rec.now ≡ 256 }
+pub fn q_record(rec: &[u8; 256]) -> usize
     ensures { result ≡ field_changes q_texts rec.now }
 {
     field(records::part(rec, Q::text(1)))
 }
 
-pub fn t_record(rec: &[u8]) -> usize
-    requires { length rec.now ≡ 768 }
+pub fn t_record(rec: &[u8; 768]) -> usize
     ensures { result ≡ field_changes t_texts rec.now }
 {
     let mut n = 0;
-    let mut k = 2;
-    while k < 10 {
+    for k in 2..10 {
         n += field(records::part(rec, T::text(k)));
-        k += 1;
     }
     n
+}
+
+// The T records of a file.
+pub fn t_records(file: &[u8]) -> &[[u8; 768]]
+    requires { Sized file.now }
+    ensures { result.now ≡ turns file.now }
+{
+    file[Q::LENGTH..file.len() - Z::LENGTH].as_chunks().0
 }
 
 // Of a file: Q and each T record; Z has no text.
@@ -70,27 +67,19 @@ pub fn file(file: &[u8]) -> usize
     requires { Sized file.now }
     ensures { (page : ℕ) → result ≡ length (notes_of page file.now) }
 {
-    let end = file.len() - Z::LENGTH;
-    let mut n = q_record(&file[0..Q::LENGTH]);
-    let mut at = Q::LENGTH;
-    while at < end {
-        let next = at + T::LENGTH;
-        n += t_record(&file[at..next]);
-        at = next;
+    let mut n = q_record(file.first_chunk().unwrap());
+    for t in t_records(file) {
+        n += t_record(t);
     }
     n
 }
 
 // Whether a T record has none. From T8 on to eleven bytes behind T24, nothing but text would change in a sound record, if the
 // lists from which T9a and T10a are hold letters: so mostly one look at these 672 bytes, 21 steps of 32, is enough.
-fn t_none(rec: &[u8]) -> bool
-    requires { length rec.now ≡ 768 }
+fn t_none(rec: &[u8; 768]) -> bool
     ensures { result ≡ eqb (field_changes t_texts rec.now) 0 }
 {
-    if none(&rec[53..725]) {
-        return true;
-    }
-    t_record(rec) == 0
+    none(&rec[53..725]) || t_record(rec) == 0
 }
 
 // Whether a file has none.
@@ -98,17 +87,14 @@ pub fn nothing(file: &[u8]) -> bool
     requires { Sized file.now }
     ensures { (page : ℕ) → result ≡ eqb (length (notes_of page file.now)) 0 }
 {
-    if q_record(&file[0..Q::LENGTH]) != 0 {
+    if q_record(file.first_chunk().unwrap()) != 0 {
         return false;
     }
-    let end = file.len() - Z::LENGTH;
-    let mut from = Q::LENGTH;
-    while from < end {
-        let to = from + T::LENGTH;
-        if !t_none(&file[from..to]) {
+    let all = t_records(file);
+    for t in all {
+        if !t_none(t) {
             return false;
         }
-        from = to;
     }
     true
 }

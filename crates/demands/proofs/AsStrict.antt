@@ -17,8 +17,7 @@ use Rattle.payments.specs.Faults.{t_fault}
 use Rattle.structure.specs.Slots.{slot_at}
 use Rattle.structure.specs.Walk.{structure_of}
 use Rattle.structure.specs.Fits.{Tells, tells, fits}
-use Rattle.structure.specs.declared.Shape.{Shape}
-use Rattle.structure.specs.declared.Shape.TheVariants.{Fits, Refused}
+use Rattle.structure.specs.Shape.{Shape, Fits, Refused}
 use Rattle.judge.specs.First.{first_rule, faulty, told_at, none}
 use Rattle.judge.specs.Content.{fault_of, rule_from, rule_end, content_of}
 use Rattle.judge.specs.ByKind.{of_t}

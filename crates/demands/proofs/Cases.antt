@@ -19,8 +19,7 @@ use Rattle.payments.specs.Rules.{is_transfer, is_cheque, is_country, is_two_capi
 use Rattle.payments.specs.Faults.{t_rules, t_fault}
 use Rattle.structure.specs.Slots.{slot_at}
 use Rattle.structure.specs.Walk.{fault_in, structure_of}
-use Rattle.structure.specs.declared.Shape.{Shape}
-use Rattle.structure.specs.declared.Shape.TheVariants.{Fits}
+use Rattle.structure.specs.Shape.{Shape, Fits}
 use Rattle.judge.specs.Content.{fault_of, content_of}
 use Rattle.judge.specs.Sums.{euro_sum, cent_sum, file_number}
 use Rattle.judge.specs.Verdict.{verdict_of, judge_of}

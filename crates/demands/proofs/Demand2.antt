@@ -15,8 +15,7 @@ use Rattle.payments.specs.Faults.{t_fault}
 use Rattle.structure.specs.Slots.{slot_at}
 use Rattle.structure.specs.Walk.{letter_of, structure_of}
 use Rattle.structure.specs.Fits.{Fit, Stuck, Tells, tells}
-use Rattle.structure.specs.declared.Shape.{Shape}
-use Rattle.structure.specs.declared.Shape.TheVariants.{Fits, Refused}
+use Rattle.structure.specs.Shape.{Shape, Fits, Refused}
 use Rattle.judge.specs.Sums.{euro_sum, cent_sum}
 use Rattle.judge.specs.First.{first_broken}
 use Rattle.judge.specs.Content.{fault_of, rule_from, rule_end, content_of, rule_real}

@@ -15,8 +15,7 @@ use Rattle.rules.specs.Faults.{q_fault, z_fault}
 use Rattle.structure.specs.Slots.{slot_at}
 use Rattle.structure.specs.Walk.{structure_of}
 use Rattle.structure.specs.Fits.{Tells, tells}
-use Rattle.structure.specs.declared.Shape.{Shape}
-use Rattle.structure.specs.declared.Shape.TheVariants.{Fits, Refused}
+use Rattle.structure.specs.Shape.{Shape, Fits, Refused}
 use Rattle.judge.specs.First.{breaks}
 use Rattle.judge.specs.Content.{fault_of}
 use Rattle.judge.specs.ByKind.{of_q, of_z}

@@ -13,8 +13,7 @@ use Rattle.fields.specs.Lists.{is_taken}
 use Rattle.structure.specs.Slots.{slot_at}
 use Rattle.structure.specs.Walk.{structure_of}
 use Rattle.structure.specs.Fits.{Fit}
-use Rattle.structure.specs.declared.Shape.{Shape}
-use Rattle.structure.specs.declared.Shape.TheVariants.{Fits, Refused}
+use Rattle.structure.specs.Shape.{Shape, Fits, Refused}
 use Rattle.judge.specs.Sums.{euros, cents, euro_sum, cent_sum, file_number}
 use Rattle.judge.specs.Records.{file_of}
 use Rattle.judge.specs.ByRecords.{sum_by_records, cents_by_records}

@@ -12,7 +12,7 @@ use Rattle.laws.specs.Scan.{first, Means, means}
 use Rattle.payments.specs.Rules.{key_of}
 use Rattle.structure.specs.Slots.{slot_at}
 use Rattle.structure.specs.Walk.{structure_of}
-use Rattle.structure.specs.declared.Shape.TheVariants.{Fits}
+use Rattle.structure.specs.Shape.{Fits}
 use Rattle.judge.specs.Apart.{slots_from, slots_count}
 use Rattle.sorting.specs.Kept.{first_of, returned, named, rule_in, named_in}
 use Rattle.sorting.proofs.Sound.{first_below}

@@ -11,8 +11,7 @@ use lib.ListN.{length}
 use Rattle.laws.specs.Choice.{on_eq, off_eq, on_lt}
 use Rattle.charset.specs.Table.{is_page}
 use Rattle.structure.specs.Walk.{structure_of}
-use Rattle.structure.specs.declared.Shape.{Shape}
-use Rattle.structure.specs.declared.Shape.TheVariants.{Fits, Refused}
+use Rattle.structure.specs.Shape.{Shape, Fits, Refused}
 use Rattle.judge.specs.Content.{rule_from, rule_end, rule_real}
 use Rattle.judge.specs.Meaning.{broken}
 use Rattle.judge.specs.Sums.{euro_sum, cent_sum}

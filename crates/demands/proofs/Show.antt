@@ -16,8 +16,7 @@ use Rattle.records.specs.Inside.{Inside, q_text_inside, t_text_inside}
 use Rattle.records.specs.declared.Span.{Span}
 use Rattle.structure.specs.Slots.{width_at, slot_at, later_width}
 use Rattle.structure.specs.Walk.{structure_of}
-use Rattle.structure.specs.declared.Shape.{Shape}
-use Rattle.structure.specs.declared.Shape.TheVariants.{Fits, Refused}
+use Rattle.structure.specs.Shape.{Shape, Fits, Refused}
 use Rattle.forwarding.specs.Numbered.{text_wide}
 use Rattle.show.specs.Shown.{moved, shown_by, shown_at, ShownAs, shown_inside, in_q, in_t}
 use Rattle.host.specs.declared.Part.{Part}

@@ -17,8 +17,7 @@ use Rattle.records.specs.Places.{record_at}
 use Rattle.structure.specs.Slots.{width_at, slot_at}
 use Rattle.structure.specs.Walk.{structure_of}
 use Rattle.structure.specs.Fits.{Tells, tells}
-use Rattle.structure.specs.declared.Shape.{Shape}
-use Rattle.structure.specs.declared.Shape.TheVariants.{Fits, Refused}
+use Rattle.structure.specs.Shape.{Shape, Fits, Refused}
 use Rattle.judge.specs.First.{breaks, first_rule}
 use Rattle.judge.specs.Content.{fault_of, rule_from, rule_end}
 use Rattle.judge.specs.Sums.{euros, euro_sum}

@@ -13,8 +13,7 @@ use Rattle.structure.specs.Slots.{slot_at}
 use Rattle.structure.specs.Walk.{letter_of, structure_of}
 use Rattle.structure.specs.Whole.{whole, letter_q, letter_t}
 use Rattle.structure.specs.Fits.{Fit, Tells, tells, fits}
-use Rattle.structure.specs.declared.Shape.{Shape}
-use Rattle.structure.specs.declared.Shape.TheVariants.{Fits, Refused}
+use Rattle.structure.specs.Shape.{Shape, Fits, Refused}
 use Rattle.demands.specs.Broken.{Due}
 use Rattle.demands.specs.Show.{Walked, There}
 use Rattle.demands.proofs.Turns.{told_first, due_walked, walked_due}

@@ -10,7 +10,7 @@ use Rattle.payments.specs.Rules.{key_of}
 use Rattle.payments.specs.Faults.{t_fault}
 use Rattle.structure.specs.Slots.{slot_at}
 use Rattle.structure.specs.Walk.{structure_of}
-use Rattle.structure.specs.declared.Shape.TheVariants.{Fits, Refused}
+use Rattle.structure.specs.Shape.{Fits, Refused}
 use Rattle.judge.specs.Sums.{euros, euro_sum}
 use Rattle.judge.specs.Records.{MadeOf}
 use Rattle.forwarding.specs.Forwarded.{notes_of}

@@ -4,6 +4,7 @@ pub mod Put
 pub mod Parts
 pub mod Between
 pub mod Sized
+pub mod Turns
 pub mod Changes
 pub mod Fields
 pub mod Pieces

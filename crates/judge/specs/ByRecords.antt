@@ -17,7 +17,7 @@ use Rattle.structure.specs.Slots.{slot_at, place_is, later_width}
 use Rattle.structure.specs.Walk.{letter_of, fault_in, structure_of}
 use Rattle.structure.specs.Whole.{whole, letter_q, letter_t}
 use Rattle.structure.specs.Fits.{WalksOn, Fit, fits, fit_found}
-use Rattle.structure.specs.declared.Shape.TheVariants.{Fits}
+use Rattle.structure.specs.Shape.{Fits}
 use Rattle.judge.specs.Content.{fault_of, rule_from, rule_end, content_of, rule_real}
 use Rattle.judge.specs.Meaning.{none_broken, complete}
 use Rattle.judge.specs.Sums.{total, euros, cents, euro_sum, cent_sum}

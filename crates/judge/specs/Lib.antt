@@ -1,9 +1,11 @@
 pub mod First
 pub mod Content
 pub mod Run
+pub mod Found
 pub mod ByKind
 pub mod Sums
 pub mod Verdict
+pub mod Refusal
 pub mod Told
 pub mod Meaning
 pub mod Records

@@ -12,8 +12,7 @@ use Rattle.fields.specs.Lists.{is_taken}
 use Rattle.structure.specs.Slots.{slot_at}
 use Rattle.structure.specs.Walk.{letter_of, digits_of, digits_for, length_for, allowed, fault_in, structure_of}
 use Rattle.structure.specs.Fits.{Reached, Tells, tells, passed_room}
-use Rattle.structure.specs.declared.Shape.{Shape}
-use Rattle.structure.specs.declared.Shape.TheVariants.{Fits, Refused}
+use Rattle.structure.specs.Shape.{Shape, Fits, Refused}
 use Rattle.judge.specs.First.{first_broken}
 use Rattle.judge.specs.Content.{fault_of, rule_from, rule_end, content_of, rule_real}
 use Rattle.judge.specs.Meaning.{broken}

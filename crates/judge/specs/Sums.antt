@@ -84,6 +84,8 @@ module _ (file : List ℕ) (n : ℕ) where
   unfolding cent_sum
   cent_le = total_le (λ (k : ℕ). cents (slot_at file k)) 100 n (λ k. omega (arith, cents_lt (slot_at file k)))
 
+pub ruleset summing = (euro_more, cent_more, euro_le, cent_le, euros_lt, cents_lt)
+
 -- the file's number from its three parts
 pub number_is : (a b c : List ℕ) → length b ≡ 6 → length c ≡ 2 → dec a * 100000000 + dec b * 100 + dec c ≡ dec (a ++ (b ++ c))
 number_is a b c p q =

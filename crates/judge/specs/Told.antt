@@ -8,8 +8,7 @@ use Rattle.fields.specs.Lists.{is_taken}
 use Rattle.structure.specs.Slots.{slot_at}
 use Rattle.structure.specs.Walk.{structure_of}
 use Rattle.structure.specs.Fits.{Fit, Tells, tells}
-use Rattle.structure.specs.declared.Shape.{Shape}
-use Rattle.structure.specs.declared.Shape.TheVariants.{Fits, Refused}
+use Rattle.structure.specs.Shape.{Shape, Fits, Refused}
 use Rattle.judge.specs.Content.{content_of}
 use Rattle.judge.specs.Sums.{euro_sum, cent_sum, file_number}
 use Rattle.judge.specs.Verdict.{refused, sound, unless, verdict_by, verdict_of, or_taken, judge_of}

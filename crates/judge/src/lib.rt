@@ -1,19 +1,23 @@
 // The judge: the code page, structure over the whole file, then content record by record, then the taken numbers.
 #![tactic(auto)]
 
-ghost use Rattle.std.specs.Prelude.{◌≡◌, ◌+◌, ◌*◌, ◌-◌, ◌≤◌, ◌<◌, length};
+ghost use Rattle.std.specs.Prelude.{◌≡◌, ◌+◌, ◌*◌, ◌-◌, ◌≤◌, ◌<◌, length, IfErr};
+ghost use Rattle.laws.specs.Found.{nonzero};
 ghost use Rattle.records.specs.Places.{record_at};
+ghost use Rattle.judge.specs.Found.{broken, unbroken};
+ghost use Rattle.judge.specs.Refusal.{number_of, rec_of, at_of, verdict_in};
 ghost use Rattle.judge.specs.Content.{rule_from, rule_end, content_of};
 ghost use Rattle.judge.specs.Run.{length_at, slot_fault, slot_in, run_fault, Lies, first_in};
 ghost use Rattle.judge.specs.Sums.{euros, cents, euro_sum, cent_sum, file_number};
-ghost use Rattle.judge.specs.Verdict.{refused, verdict_of, JudgedAs};
+ghost use Rattle.judge.specs.Verdict.{refused, verdict_of, judge_of, JudgedAs};
+ghost use Rattle.judge.specs.declared.Refusal.TheVariants.{Structure, Broken};
 
-use records::{Q, QField, T, TField};
-use structure::Shape;
+use records::{QField, TField};
+use structure::Misfit;
 
 // The first broken rule, its record, and the place there of the field that breaks it; zeros where none is broken.
 #[repr(C)]
-#[derive(Clone, Copy)]
+#[derive(Clone, Copy, PartialEq, Eq)]
 pub struct Breach {
     pub number: usize,
     pub rec: usize,
@@ -33,28 +37,153 @@ pub struct Verdict {
     pub cents: u64,
 }
 
+impl Verdict {
+    pub fn refused(number: usize, rec: usize, at: usize) -> Self
+        ensures { result ≡ refused number rec at }
+    {
+        Self {
+            number,
+            rec,
+            at,
+            payments: 0,
+            euros: 0,
+            cents: 0,
+        }
+    }
+}
+
+// What a sound file adds up to.
+#[derive(Clone, Copy, PartialEq, Eq)]
+pub struct Totals {
+    pub payments: usize,
+    pub euros: u64,
+    pub cents: u64,
+}
+
+// Why a file is refused, by this crate or by one above it.
+#[derive(Clone, Copy, PartialEq, Eq)]
+pub enum Refusal {
+    // 1 to 5.
+    Structure(Misfit),
+    // 7.
+    NoSuchPage,
+    // A rule of the content, 10 to 42.
+    Broken(Breach),
+    // 43.
+    NothingKept,
+    // 50.
+    Taken,
+    // 60.
+    OutputRoom,
+    // 61.
+    NoteRoom,
+    // 62.
+    Codes,
+    // 63.
+    ListRoom,
+    // 70.
+    NoSuchPair,
+}
+
+impl Refusal {
+    pub fn number(self) -> usize
+        ensures { result ≡ number_of self }
+    {
+        match self {
+            Refusal::Structure(misfit) => misfit.fault.number(),
+            Refusal::NoSuchPage => 7,
+            Refusal::Broken(breach) => breach.number,
+            Refusal::NothingKept => 43,
+            Refusal::Taken => 50,
+            Refusal::OutputRoom => 60,
+            Refusal::NoteRoom => 61,
+            Refusal::Codes => 62,
+            Refusal::ListRoom => 63,
+            Refusal::NoSuchPair => 70,
+        }
+    }
+
+    // The record that is named, or 0.
+    pub fn rec(self) -> usize
+        ensures { result ≡ rec_of self }
+    {
+        match self {
+            Refusal::Structure(misfit) => misfit.rec,
+            Refusal::Broken(breach) => breach.rec,
+            _ => 0,
+        }
+    }
+
+    // The place in that record of the field that breaks the rule, or 0.
+    pub fn at(self) -> usize
+        ensures { result ≡ at_of self }
+    {
+        match self {
+            Refusal::Broken(breach) => breach.at,
+            _ => 0,
+        }
+    }
+}
+
+impl From<Misfit> for Refusal {
+    ghost from_gives = { λ m r. r ≡ Structure m };
+
+    fn from(misfit: Misfit) -> Self {
+        Self::Structure(misfit)
+    }
+}
+
+impl From<Breach> for Refusal {
+    ghost from_gives = { λ b r. r ≡ Broken b };
+
+    fn from(breach: Breach) -> Self {
+        Self::Broken(breach)
+    }
+}
+
+impl From<Result<Totals, Refusal>> for Verdict {
+    ghost from_gives = { λ found v. v ≡ verdict_in found };
+
+    fn from(found: Result<Totals, Refusal>) -> Self {
+        match found {
+            Ok(totals) => Self {
+                number: 0,
+                rec: 0,
+                at: 0,
+                payments: totals.payments,
+                euros: totals.euros,
+                cents: totals.cents,
+            },
+            Err(why) => Self::refused(why.number(), why.rec(), why.at()),
+        }
+    }
+}
+
 // What a rule says of record k, whose bytes are the slot's, in a file with so many payments.
+#[tactic(auto, unfolding(crate::specs::Run::slot_fault))]
 fn fault(
     page: u32,
     transfer: &[u8],
     cheque: &[u8],
-    key: &[u8],
+    key: &[u8; 21],
     payments: usize,
     euros: u64,
     slot: &[u8],
     k: usize,
     rule: usize,
-) -> usize
-    requires { (length slot.now ≡ length_at payments k) × (length key.now ≡ 21) }
-    ensures { result ≡ slot_fault page transfer.now cheque.now key.now payments euros slot.now k rule }
+) -> Option<usize>
+    requires { length slot.now ≡ length_at payments k }
+    ensures { result ≡ nonzero (slot_fault page transfer.now cheque.now key.now payments euros slot.now k rule) }
 {
     if k == 0 {
-        return rules::q::fault(page, slot, rule);
+        return rules::q::fault(page, slot.as_array::<256>().unwrap(), rule);
     }
     if k <= payments {
-        return payments::fault(page, transfer, cheque, key, slot, rule);
+        let t = slot.as_array::<768>().unwrap();
+        return payments::fault(page, transfer, cheque, key, t, rule);
     }
-    rules::z::fault(payments as u64, euros, slot, rule)
+    let z = slot.as_array::<256>().unwrap();
+    rules::z::fault(payments as u64, euros, z, rule)
 }
 
 // The rules of record k: from its first up to below its end.
@@ -83,18 +212,12 @@ pub fn rule_end(n: usize, k: usize) -> usize
 }
 
 // The slot of record k in bytes that stand from place skip of a file on.
+#[tactic(auto, unfolding(crate::specs::Run::slot_in))]
 fn slot_in(bytes: &[u8], skip: usize, k: usize) -> &[u8]
     requires { (k ≤ 10000) × (skip ≤ record_at k) × (record_at k - skip ≤ length bytes.now) }
     ensures { result.now ≡ slot_in bytes.now skip k }
 {
-    let at = records::record_at(k) - skip;
-    let left = bytes.len() - at;
-    let width = structure::width_at(k);
-    if left < width {
-        return &bytes[at..];
-    }
-    let end = at + width;
-    &bytes[at..end]
+    structure::up_to(bytes, records::record_at(k) - skip, structure::width_at(k))
 }
 
 // The first broken rule of a run of records ends the judgement there.
@@ -102,41 +225,36 @@ pub fn run(
     page: u32,
     transfer: &[u8],
     cheque: &[u8],
-    key: &[u8],
+    key: &[u8; 21],
     payments: usize,
     euros: u64,
     bytes: &[u8],
     skip: usize,
     from: usize,
     to: usize,
-) -> Breach
-    requires { Lies bytes.now skip payments from to × (length key.now ≡ 21) }
-    ensures { result ≡ first_in (run_fault page transfer.now cheque.now key.now payments euros bytes.now skip) (rule_from payments) (rule_end payments) from to }
+) -> Option<Breach>
+    requires { Lies bytes.now skip payments from to }
+    ensures { result ≡ broken (first_in (run_fault page transfer.now cheque.now key.now payments euros bytes.now skip) (rule_from payments) (rule_end payments) from to) }
 {
-    let mut number = 0;
-    let mut rec = 0;
-    let mut at = 0;
-    let mut k = from;
-    'records: while k < to {
+    let mut found = None;
+    'records: for k in from..to {
         let slot = slot_in(bytes, skip, k);
-        let mut rule = rule_from(payments, k);
-        let end = rule_end(payments, k);
-        while rule < end {
-            let place = fault(page, transfer, cheque, key, payments, euros, slot, k, rule);
-            if place != 0 {
-                number = rule;
-                rec = k;
-                at = place;
+        for rule in rule_from(payments, k)..rule_end(payments, k) {
+            if let Some(at) = fault(page, transfer, cheque, key, payments, euros, slot, k, rule) {
+                found = Some(Breach {
+                    number: rule,
+                    rec: k,
+                    at,
+                });
                 break 'records;
             }
-            rule += 1;
         }
-        k += 1;
     }
-    Breach { number, rec, at }
+    found
 }
 
 // All records of a file with n T records.
+#[tactic(auto, using(crate::specs::Run::content_in_file, crate::specs::Found::failed, crate::specs::Found::passed))]
 pub fn content(
     page: u32,
     file: &[u8],
@@ -144,117 +262,98 @@ pub fn content(
     euros: u64,
     transfer: &[u8],
     cheque: &[u8],
-) -> Breach
+) -> Result<(), Breach>
     requires { (length file.now ≡ 512 + 768 * n) × ((1 ≤ n) × (n ≤ 9999)) }
-    ensures { result ≡ content_of page file.now n euros transfer.now cheque.now }
+    ensures { result ≡ unbroken (content_of page file.now n euros transfer.now cheque.now) }
 {
-    let key = payments::key(structure::slot(file, 1));
-    run(page, transfer, cheque, key, n, euros, file, 0, 0, n + 2)
+    let key = payments::key(structure::whole(file, 1));
+    match run(page, transfer, cheque, key, n, euros, file, 0, 0, n + 2) {
+        Some(breach) => Err(breach),
+        None => Ok(()),
+    }
 }
 
 // What a payment adds to the sums: whole euros, and cents.
-pub fn euros_of(rec: &[u8]) -> u64
-    requires { length rec.now ≡ 768 }
+pub fn euros_of(rec: &[u8; 768]) -> u64
     ensures { result ≡ euros rec.now }
 {
-    fields::value(T::field(rec, TField::T14a))
+    fields::value(records::bytes(rec, TField::T14a))
 }
 
-pub fn cents_of(rec: &[u8]) -> u64
-    requires { length rec.now ≡ 768 }
+#[tactic(auto, unfolding(records::specs::Places::part))]
+pub fn cents_of(rec: &[u8; 768]) -> u64
     ensures { result ≡ cents rec.now }
 {
-    let t14b = T::field(rec, TField::T14b);
+    let t14b = records::bytes(rec, TField::T14b);
     fields::value(&t14b[0..2])
 }
 
-#[derive(Drop)]
-pub struct Totals {
-    pub euros: u64,
-    pub cents: u64,
-}
-
 // The sums over the T records. Cents are never carried.
+#[tactic(auto, using(crate::specs::Sums::summing), unfolding(crate::specs::Sums::euro_sum, crate::specs::Sums::cent_sum))]
 pub fn sum(file: &[u8], n: usize) -> Totals
     requires { (length file.now ≡ 512 + 768 * n) × (n ≤ 9999) }
-    ensures { (result.euros ≡ euro_sum file.now n) × (result.cents ≡ cent_sum file.now n) }
+    ensures { (result.euros ≡ euro_sum file.now n) × (result.cents ≡ cent_sum file.now n) × (result.payments ≡ n) }
 {
     let mut euros: u64 = 0;
     let mut cents: u64 = 0;
-    let mut k = 0;
-    while k < n {
-        k += 1;
-        let rec = structure::slot(file, k);
+    for k in 0..n {
+        let rec = structure::whole(file, k + 1);
         euros += euros_of(rec);
         cents += cents_of(rec);
     }
-    Totals { euros, cents }
+    Totals {
+        payments: n,
+        euros,
+        cents,
+    }
 }
 
 // The 18 digits of Q4, Q6 and Q7 as one whole number.
-pub fn number_of(q: &[u8]) -> u64
-    requires { length q.now ≡ 256 }
+#[tactic(auto, using(fields::specs::Laws::dec_lt, crate::specs::Sums::number_is), unfolding(crate::specs::Sums::file_number))]
+pub fn number_of(q: &[u8; 256]) -> u64
     ensures { result ≡ file_number q.now }
 {
-    let q4 = fields::value(Q::field(q, QField::Q4));
-    let q6 = fields::value(Q::field(q, QField::Q6));
-    let q7 = fields::value(Q::field(q, QField::Q7));
+    let q4 = fields::value(records::bytes(q, QField::Q4));
+    let q6 = fields::value(records::bytes(q, QField::Q6));
+    let q7 = fields::value(records::bytes(q, QField::Q7));
     q4 * 100000000 + q6 * 100 + q7
 }
 
-pub fn refusal(number: usize, rec: usize, at: usize) -> Verdict
-    ensures { result ≡ refused number rec at }
-{
-    Verdict {
-        number,
-        rec,
-        at,
-        payments: 0,
-        euros: 0,
-        cents: 0,
-    }
-}
-
 // Structure, then content.
-pub fn examine(page: u32, file: &[u8], transfer: &[u8], cheque: &[u8]) -> Verdict
-    ensures { result ≡ verdict_of page file.now transfer.now cheque.now }
+#[tactic(auto, unfolding(crate::specs::Verdict::verdict_of))]
+pub fn examine(page: u32, file: &[u8], transfer: &[u8], cheque: &[u8]) -> Result<Totals, Refusal>
+    ensures answer { verdict_in result ≡ verdict_of page file.now transfer.now cheque.now }
+    ensures real { IfErr result (λ r. number_of r ≡ 0 → ⊥) }
 {
-    match structure::walk(file) {
-        Shape::Refused(number, rec) => refusal(number, rec, 0),
-        Shape::Fits(n) => {
-            let sums = sum(file, n);
-            let broken = content(page, file, n, sums.euros, transfer, cheque);
-            let number = broken.number;
-            if number != 0 {
-                return refusal(number, broken.rec, broken.at);
-            }
-            Verdict {
-                number: 0,
-                rec: 0,
-                at: 0,
-                payments: n,
-                euros: sums.euros,
-                cents: sums.cents,
-            }
-        }
-    }
+    let n = structure::walk(file)?;
+    let totals = sum(file, n);
+    content(page, file, n, totals.euros, transfer, cheque)?;
+    Ok(totals)
 }
 
 // A page that does not exist is 7, before anything is read; then the verdict, and then the taken numbers.
+#[tactic(auto, unfolding(crate::specs::Verdict::judge_of))]
+fn with_taken(
+    page: u32,
+    file: &[u8],
+    transfer: &[u8],
+    cheque: &[u8],
+    taken: &[u64],
+) -> Result<Totals, Refusal>
+    ensures { verdict_in result ≡ judge_of page file.now transfer.now cheque.now taken.now }
+{
+    if !charset::is_page(page) {
+        return Err(Refusal::NoSuchPage);
+    }
+    let totals = examine(page, file, transfer, cheque)?;
+    if fields::taken(taken, number_of(structure::whole(file, 0))) {
+        return Err(Refusal::Taken);
+    }
+    Ok(totals)
+}
+
 pub fn judge(page: u32, file: &[u8], transfer: &[u8], cheque: &[u8], taken: &[u64]) -> Verdict
     ensures { JudgedAs page file.now transfer.now cheque.now taken.now result }
 {
-    let exists = charset::is_page(page);
-    if !exists {
-        return refusal(7, 0, 0);
-    }
-    let found = examine(page, file, transfer, cheque);
-    let number = found.number;
-    if number != 0 {
-        return found;
-    }
-    if fields::taken(taken, number_of(structure::slot(file, 0))) {
-        return refusal(50, 0, 0);
-    }
-    found
+    Verdict::from(with_taken(page, file, transfer, cheque, taken))
 }

@@ -4,7 +4,7 @@ use Rattle.std.proofs.Math.Path.{sym}
 use Rattle.std.proofs.Common.{ap, ◌∙◌, arith, ne_eqb, length-append}
 use Rattle.structure.specs.Slots.{slot_at}
 use Rattle.structure.specs.Walk.{structure_of}
-use Rattle.structure.specs.declared.Shape.TheVariants.{Fits}
+use Rattle.structure.specs.Shape.{Fits}
 use Rattle.judge.specs.Apart.{slots_from}
 use Rattle.forwarding.specs.Noted.{Noted, noted_is, noted_length, noted_append}
 use Rattle.sorting.specs.Kept.{t_records, rule_in, returned_in}

@@ -6,7 +6,7 @@ use mathlib.Core.List.{List, [], map}
 use Rattle.laws.specs.Choice.{on_eq, off_eq, on_lt, off_lt}
 use Rattle.laws.specs.Steps.{empty}
 use Rattle.structure.specs.Walk.{structure_of}
-use Rattle.structure.specs.declared.Shape.TheVariants.{Fits}
+use Rattle.structure.specs.Shape.{Fits}
 use Rattle.judge.specs.Records.{joined}
 use Rattle.forwarding.specs.Put.{put, put_none}
 use Rattle.forwarding.specs.Noted.{Noted}

@@ -3,7 +3,7 @@
 
 ghost use Rattle.std.specs.Prelude.{◌≡◌, cond, [], ◌+◌, ◌*◌, eqb, length};
 ghost use Rattle.structure.specs.Walk.{structure_of};
-ghost use Rattle.structure.specs.declared.Shape.TheVariants.{Fits};
+ghost use Rattle.structure.specs.Shape.{Fits};
 ghost use Rattle.forwarding.specs.Noted.{Noted};
 ghost use Rattle.m8.specs.Record.{amount_of, reference_of, m8_of, code_of};
 ghost use Rattle.m8.specs.Filed.{not_filed, records_of, FiledAs};

@@ -8,7 +8,7 @@ use Rattle.forwarding.specs.Forwarded.{forwarded, notes_of}
 use Rattle.forwarding.specs.Put.{put}
 use Rattle.judge.specs.ByRecords.{file_length}
 use Rattle.structure.specs.Slots.{slot_at}
-use Rattle.structure.specs.declared.Shape.TheVariants.{Fits}
+use Rattle.structure.specs.Shape.{Fits}
 use Rattle.sorting.specs.Kept.{t_records, rule_in, kept_in, returned_in, named_in, kept_file}
 use Rattle.sorting.specs.Sorted.{unsorted, goes_on, sort_of}
 use Rattle.sorting.specs.Lists.{counts_add, named_count}

@@ -1,11 +1,6 @@
 -- What the end answers after any cuts is what the reading means; and, with one pair of lists throughout, it is the judge's
 -- answer over the joined bytes.
-use Prim.Native.Nat.{ℕ, suc, ◌+◌, ◌-◌, ◌≤◌, ◌<◌, min}
-use Rattle.std.specs.Prelude.{List, [], ◌≡◌, Bool, true, false, eqb, ltb, length}
-use Rattle.std.proofs.Math.Path.{refl, sym, ap, ap₂}
-use Rattle.std.proofs.Common.{subst, ◌∙◌, inl, inr, ltb-true, ltb-false, eqb-true}
-use Rattle.std.proofs.Math.Bool.{cond}
-use native.Mathlib.Omega.{arith}
+use Rattle.std.proofs.Common.{ℕ, suc, ◌+◌, ◌-◌, ◌≤◌, ◌<◌, min, arith, List, ◌≡◌, Bool, true, false, eqb, ltb, length, refl, sym, ap, ap₂, subst, ◌∙◌, inl, inr, ltb-true, ltb-false, eqb-true, cond}
 use Rattle.std.proofs.lemmas.Bool.{eqb-false}
 use Rattle.laws.specs.Choice.{on_eq, off_eq, on_lt}
 use Rattle.charset.specs.Table.{is_page}
@@ -14,15 +9,13 @@ use Rattle.records.specs.Places.{record_at}
 use Rattle.structure.specs.Slots.{slot_at, width_at, place_is, slot_length, slot_short}
 use Rattle.structure.specs.Walk.{fault_in, structure_of}
 use Rattle.structure.specs.Fits.{Reached, Fit, Stuck, fit, fit_found, stuck_found}
-use Rattle.structure.specs.declared.Shape.{Shape}
-use Rattle.structure.specs.declared.Shape.TheVariants.{Fits, Refused}
+use Rattle.structure.specs.Shape.{Shape, Fits, Refused}
 use Rattle.judge.specs.Sums.{euro_sum, cent_sum, file_number}
 use Rattle.judge.specs.Verdict.{refused, sound, unless, or_taken}
 use Rattle.judge.specs.declared.Breach.{Breach}
 use Rattle.judge.specs.declared.Verdict.{Verdict}
 use Rattle.forwarding.specs.Forwarded.{notes_of}
 use Rattle.tally.specs.declared.Tally.{Tally}
-use Rattle.tally.specs.Record.{breach_in, or_next}
 use Rattle.tally.specs.Settle.{stop_at}
 use Rattle.tally.specs.Conclude.{ends_in, at_z, conclude_of, too_long, has_stopped, ends_broken, ends_whole}
 use Rattle.reader.specs.declared.Answer.{Answer}
@@ -47,12 +40,11 @@ module _ (page : ℕ) (cuts : List Cut) where
   at_z_is n =
       let s = tally_at page cuts (n + 1) in
       let up : suc n ≡ n + 1 = omega arith in
-      let back : s.next - 1 ≡ n = omega (arith, next_is page cuts (n + 1)) in
+      let back : n + 1 - 1 ≡ n = omega arith in
       let e : s.euros ≡ euro_sum file n = rw up at (euros_are page cuts n) in
       let c : s.cents ≡ cent_sum file n = rw up at (cents_are page cuts n) in
-      ap₂ (λ (m k : ℕ). unless (or_next s.broken (breach_in page [] [] s.key m s.euros (slot_at file (n + 1)) k)) (sound m s.euros s.cents)) back (next_is page cuts (n + 1))
-      ∙ ap₂ (λ (x y : ℕ). unless (or_next s.broken (breach_in page [] [] s.key n x (slot_at file (n + 1)) (n + 1))) (sound n x y)) e c
-      ∙ ap (λ (b : Breach). unless b (sound n (euro_sum file n) (cent_sum file n))) (content_is page cuts n (euro_sum file n) s.key)
+      rw (next_is page cuts (n + 1), back, e, c)
+      (ap (λ (b : Breach). unless b (sound n (euro_sum file n) (cent_sum file n))) (content_is page cuts n (euro_sum file n) s.key))
 
   -- what is told of a file that fits: besides the verdict, the file's number and the changes
   abbrev Figures : Tally → Type 0
@@ -153,9 +145,8 @@ module _ (page : ℕ) (cuts : List Cut) where
     unfolding judged_of
     judged_is =
         let s = all.state in
-        ap₂ (λ (p n : ℕ). cond (is_page p) (cond (in_order r.tally r.have) (conclude_of p r.tally n (pending r)) (refused 2 0 0)) (refused 7 0 0)) s.page_is s.counted
-        ∙ ap (λ (b : Bool). cond (is_page page) (cond b (conclude_of page r.tally (min 7679745 (length file)) (pending r)) (refused 2 0 0)) (refused 7 0 0)) (in_order_is page cuts (length file) all.m r (omega arith) all.course s)
-        ∙ ap (λ (v : Verdict). cond (is_page page) v (refused 7 0 0)) concluded.0
+        let sane : in_order r.tally r.have ≡ true = in_order_is page cuts (length file) all.m r (omega arith) all.course s in
+        rw (s.page_is, s.counted, sane, concluded.0)
 
     found_is : found_of r taken ≡ reading_of page cuts taken
     unfolding found_of reading_of read_judged
@@ -181,14 +172,8 @@ module _ (page : ℕ) (cuts : List Cut) where
         go false fits e = refl
         go true true e =
             let f = concluded.1 (eqb-true _ _ e) in
-            ap (λ (b : Bool). cond b (cond (is_taken taken r.tally.number) (answered (refused 50 0 0) 0) (answered found r.tally.changes)) (answered found 0)) e
-            ∙ ap₂ (λ (m c : ℕ). cond (is_taken taken m) (answered (refused 50 0 0) 0) (answered found c)) f.0 f.1
-            ∙ on_sound e (is_taken taken (file_number (slot_at file 0)))
-            ∙ ap (λ (b : Bool). whole (cond b (cond (is_taken taken (file_number (slot_at file 0))) (refused 50 0 0) found) found)) (sym e)
-        go true false e =
-            ap (λ (b : Bool). cond b (cond (is_taken taken r.tally.number) (answered (refused 50 0 0) 0) (answered found r.tally.changes)) (answered found 0)) e
-            ∙ ap (λ (b : Bool). answered found (cond b (length (notes_of page file)) 0)) (sym e)
-            ∙ ap (λ (b : Bool). whole (cond b (cond (is_taken taken (file_number (slot_at file 0))) (refused 50 0 0) found) found)) (sym e)
+            rw (e, f.0, f.1) (on_sound e (is_taken taken (file_number (slot_at file 0))))
+        go true false e = rw (e, e)
 
 -- the end after any cuts
 pub end_is : (page : ℕ) (cuts : List Cut) (taken : List ℕ) → (end_of (fed_all (new_of page) cuts) taken).answer ≡ reading_of page cuts taken

@@ -1,17 +1,8 @@
 -- The course of a reading, byte by byte: after the first bytes of the joined ones, what the whole records among them have
 -- shown, and the bytes of the unfinished one; or the first record that the walk cannot pass.
-use Prim.Native.Nat.{ℕ, zero, suc, ◌+◌, ◌*◌, ◌-◌, ◌≤◌, ◌<◌}
+use Rattle.std.proofs.Common.{ℕ, zero, suc, ◌+◌, ◌*◌, ◌-◌, ◌≤◌, ◌<◌, List, [], ◌∷◌, ◌++◌, arith, eqb-true, ◌≡◌, Bool, cond, ◌⊎◌, refl, sym, ap, subst, ap₂, ◌∙◌, inr, ⊎_elim, eq-or-lt_of_le, length-append, drop-drop, take-suc, get_or-drop, true, false, inl, eqb, lit≤, lit<, length, take, drop, get_or, length-take, length-drop}
 use Prim.Native.Char.{code}
-use mathlib.Core.List.{List, [], ◌∷◌, ◌++◌}
-use Rattle.std.specs.Prelude.{◌≡◌, Bool, cond, ◌⊎◌}
-use Rattle.std.proofs.Math.Path.{refl, sym, ap, subst}
-use Rattle.std.proofs.Common.{ap₂, ◌∙◌, inr, ⊎_elim, eq-or-lt_of_le, length-append, drop-drop, take-suc, get_or-drop}
-use Rattle.std.proofs.Math.Bool.{true, false}
-use Rattle.std.proofs.Math.Logic.{inl}
-use native.Mathlib.Omega.{arith}
-use borrow.Author.Tests.{eqb-true, eqb-false}
-use Rattle.std.proofs.Math.Dec.{eqb, lit≤, lit<}
-use Rattle.std.proofs.Math.ListN.{length, take, drop, get_or, length-take, length-drop}
+use Rattle.std.proofs.lemmas.Bool.{eqb-false}
 use Rattle.std.proofs.Math.Seq.{drop-append_seam}
 use Rattle.laws.specs.Choice.{on_eq, off_eq, on_lt, off_lt}
 use Rattle.records.specs.Places.{record_at}

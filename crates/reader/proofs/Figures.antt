@@ -1,14 +1,6 @@
 -- What the first records of the joined bytes show: sums, the file's number, the key, the changes, and the first broken rule.
-use Prim.Native.Nat.{ℕ, zero, suc, ◌+◌, ◌*◌, ◌-◌, ◌≤◌, ◌<◌}
-use mathlib.Core.List.{List, []}
-use Rattle.std.specs.Prelude.{◌≡◌, Bool, leb, length, drop, replicate}
-use Rattle.std.proofs.Math.Path.{refl, sym, ap, ap₂, subst}
-use Rattle.std.proofs.Common.{◌∙◌}
-use Rattle.std.proofs.Math.Bool.{true, false, cond}
-use native.Mathlib.Omega.{arith}
-use borrow.Author.Tests.{eqb-true, eqb-false, ne_eqb, le-leb, lt-leb}
-use Rattle.std.proofs.Math.Dec.{eqb}
-use Rattle.std.proofs.Math.ListN.{take}
+use Rattle.std.proofs.Common.{ℕ, zero, suc, ◌+◌, ◌*◌, ◌-◌, ◌≤◌, ◌<◌, List, [], arith, eqb-true, ne_eqb, le-leb, ◌≡◌, Bool, leb, length, drop, replicate, refl, sym, ap, ap₂, subst, ◌∙◌, true, false, cond, eqb, take}
+use Rattle.std.proofs.lemmas.Bool.{eqb-false, lt-leb}
 use Rattle.laws.specs.Choice.{off_eq}
 use Rattle.laws.specs.Scan.{run, from}
 use Rattle.records.specs.Places.{record_at}
@@ -104,7 +96,8 @@ module _ (page : ℕ) (cuts : List Cut) where
       where
         go : (b : Bool) → eqb k 0 ≡ b
             → cond b (q_fault page (slot_at file k) rule) (cond (leb k k) (t_fault page t ch key (slot_at file k) rule) (z_fault k 0 (slot_at file k) rule))
-            ≡ cond b (q_fault page (slot_at file 0) rule) (cond (leb k n) (t_fault page t ch (key_of (slot_at file 1)) (slot_at file k) rule) (z_fault n e (slot_at file k) rule))
+            ≡ cond b (q_fault page (slot_at file 0) rule)
+            (cond (leb k n) (t_fault page t ch (key_of (slot_at file 1)) (slot_at file k) rule) (z_fault n e (slot_at file k) rule))
         go true q = ap (λ (j : ℕ). q_fault page (slot_at file j) rule) (eqb-true k 0 q)
         go false q =
             let low : k ≤ k = omega arith in
@@ -149,9 +142,9 @@ module _ (page : ℕ) (cuts : List Cut) where
         let up : suc k + 1 ≡ suc (suc k) = omega arith in
         let s = tally_at page cuts (suc k) in
         ap (λ (x : Tally). x.broken) (later_is page cuts k)
-        ∙ ap (λ (j : ℕ). or_next s.broken (breach_in page (completing cuts (suc k)).transfer (completing cuts (suc k)).cheque (key_at j s.key (slot_at file (suc k))) j 0 (slot_at file (suc k)) j)) (next_is page cuts (suc k))
-        ∙ ap₂ or_next (broken_is (suc k) (omega arith))
-        (breach_is (suc k) (key_at (suc k) s.key (slot_at file (suc k))) (omega arith) (λ q. key_is k))
+        ∙ rw (next_is page cuts (suc k))
+        (ap₂ or_next (broken_is (suc k) (omega arith))
+        (breach_is (suc k) (key_at (suc k) s.key (slot_at file (suc k))) (omega arith) (λ q. key_is k)))
         ∙ sym (so_far F (rule_from n) (rule_end n) (suc k)) ∙ ap (first_broken F (rule_from n) (rule_end n)) up
 
     -- and of all of them, Z with its sums included

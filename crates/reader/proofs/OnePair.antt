@@ -1,8 +1,5 @@
 -- With one pair of lists throughout, a reading means what the judge says of the joined bytes.
-use Rattle.std.specs.Prelude.{ℕ, ◌+◌, ◌*◌, ◌-◌, ◌≤◌, ◌<◌, List, [], ◌∷◌, ◌≡◌, Bool, true, false, eqb, ltb, leb, length}
-use Rattle.std.proofs.Math.Path.{refl, ap}
-use Rattle.std.proofs.Common.{ap₂, arith, ltb-false, leb-true, length-append}
-use Rattle.std.proofs.Math.Bool.{cond}
+use Rattle.std.proofs.Common.{ℕ, ◌+◌, ◌*◌, ◌-◌, ◌≤◌, ◌<◌, List, [], ◌∷◌, ◌≡◌, Bool, true, false, eqb, ltb, leb, length, refl, ap, ap₂, arith, ltb-false, leb-true, length-append, cond}
 use Rattle.std.proofs.lemmas.Bool.{eqb-false}
 use Rattle.charset.specs.Table.{is_page}
 use Rattle.rules.specs.Faults.{q_fault, z_fault}
@@ -12,8 +9,7 @@ use Rattle.records.specs.Places.{record_at}
 use Rattle.structure.specs.Slots.{slot_at, place_is}
 use Rattle.structure.specs.Walk.{structure_of}
 use Rattle.structure.specs.Fits.{fits}
-use Rattle.structure.specs.declared.Shape.{Shape}
-use Rattle.structure.specs.declared.Shape.TheVariants.{Fits, Refused}
+use Rattle.structure.specs.Shape.{Shape, Fits, Refused}
 use Rattle.judge.specs.Content.{fault_of, rule_from, rule_end, content_of}
 use Rattle.judge.specs.Sums.{euro_sum, cent_sum}
 use Rattle.judge.specs.Verdict.{refused, sound, unless, verdict_by, verdict_of, or_taken, judge_of}
@@ -42,8 +38,10 @@ unfolding fault_of
 same_fault page file n e k rule {t} {ch} {u} {ch'} h = go (eqb k 0) (leb k n) refl refl
   where
     go : (a b : Bool) → eqb k 0 ≡ a → leb k n ≡ b
-        → cond a (q_fault page (slot_at file 0) rule) (cond b (t_fault page t ch (key_of (slot_at file 1)) (slot_at file k) rule) (z_fault n e (slot_at file k) rule))
-        ≡ cond a (q_fault page (slot_at file 0) rule) (cond b (t_fault page u ch' (key_of (slot_at file 1)) (slot_at file k) rule) (z_fault n e (slot_at file k) rule))
+        → cond a (q_fault page (slot_at file 0) rule)
+        (cond b (t_fault page t ch (key_of (slot_at file 1)) (slot_at file k) rule) (z_fault n e (slot_at file k) rule))
+        ≡ cond a (q_fault page (slot_at file 0) rule)
+        (cond b (t_fault page u ch' (key_of (slot_at file 1)) (slot_at file k) rule) (z_fault n e (slot_at file k) rule))
     go true b p q = refl
     go false false p q = refl
     go false true p q =

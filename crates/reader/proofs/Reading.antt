@@ -1,8 +1,5 @@
 -- A reading: from a new reader, cut by cut. After each cut the reader's state is that of the bytes so far.
-use Rattle.std.specs.Prelude.{ℕ, ◌+◌, ◌≤◌, min, List, [], ◌∷◌, ◌++◌, ◌≡◌, refl, true, ltb, take}
-use Rattle.std.proofs.Math.Path.{sym, ap, ap₂, subst}
-use Rattle.std.proofs.Common.{◌∙◌, arith, lt-ltb, length-drop}
-use Rattle.std.proofs.Math.ListN.{length}
+use Rattle.std.proofs.Common.{ℕ, ◌+◌, ◌≤◌, min, List, [], ◌∷◌, ◌++◌, ◌≡◌, refl, true, ltb, take, sym, ap, ap₂, subst, ◌∙◌, arith, lt-ltb, length-drop, length}
 use Rattle.laws.specs.Choice.{on, on_eq}
 use Rattle.structure.specs.Slots.{width_at}
 use Rattle.forwarding.specs.Put.{put, put_length, take_put}
@@ -62,7 +59,9 @@ module _ (page : ℕ) (cuts : List Cut) (place : ℕ) (cut : Cut) (cs : List Cut
   few : length after.pending ≤ 768
   unfolding after
   few =
-      omega (arith, course_short page cuts (place + length cut.bytes) after (from_next page cuts place cut cs from).within (whole_cut page cuts place cut cs from m course), width_le after.tally.next)
+      let all = whole_cut page cuts place cut cs from m course in
+      let short = course_short page cuts (place + length cut.bytes) after (from_next page cuts place cut cs from).within all in
+      omega (arith, short, width_le after.tally.next)
 
   packs : ReadTo page (place + length cut.bytes) after (packed (with_bytes r (counted_of r.bytes (length cut.bytes))) after)
   packs =

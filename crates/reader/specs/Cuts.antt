@@ -6,8 +6,7 @@ use Rattle.std.specs.Prelude.{ℕ, ◌+◌, ◌-◌, ◌≡◌, cond, List, [], 
 use Rattle.charset.specs.Table.{is_page}
 use Rattle.records.specs.Places.{record_at}
 use Rattle.structure.specs.Walk.{structure_of}
-use Rattle.structure.specs.declared.Shape.{Shape}
-use Rattle.structure.specs.declared.Shape.TheVariants.{Fits, Refused}
+use Rattle.structure.specs.Shape.{Shape, Fits, Refused}
 use Rattle.judge.specs.First.{first_broken}
 use Rattle.judge.specs.Content.{fault_of, rule_from, rule_end}
 use Rattle.judge.specs.Sums.{euro_sum, cent_sum}

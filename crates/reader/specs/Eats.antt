@@ -1,16 +1,12 @@
 -- Laws of feeding: any cuts, a stopped walk, a short piece, a whole record.
-use Rattle.std.specs.Prelude.{ℕ, ◌+◌, ◌-◌, ◌≤◌, ◌<◌, ◌≡◌, Bool, true, false, not, cond, length, take, drop, ltb, eqb}
-use mathlib.Core.List.{List, [], ◌∷◌, ◌++◌, append-nil, append_assoc}
-use Rattle.std.proofs.Math.Path.{refl, ap}
-use Rattle.std.proofs.Common.{sym, ◌∙◌, arith, ltb-true, ltb-false, eqb-true, length-append, length-take, length-drop, take-append-drop, drop-drop, take_all, lit≤, lit<}
-use Rattle.std.proofs.lemmas.Bool.{not-false}
-use Rattle.laws.specs.Choice.{on_eq, off_eq, both, either}
+use Rattle.std.proofs.Common.{ℕ, ◌+◌, ◌-◌, ◌≤◌, ◌<◌, ◌≡◌, Bool, true, false, cond, length, take, drop, ltb, eqb, refl, ap, List, [], ◌∷◌, ◌++◌, append-nil, append_assoc, sym, ◌∙◌, arith, ltb-false, eqb-true, length-append, length-take, length-drop, take-append-drop, drop-drop, take_all, lit≤, lit<}
+use Rattle.laws.specs.Choice.{on_eq, off_eq, either}
 use Rattle.structure.specs.Slots.{width_at}
 use Rattle.forwarding.specs.Put.{put, put_none, put_put_at}
 use Rattle.tally.specs.declared.Tally.{Tally}
-use Rattle.tally.specs.Settle.{settle_of, is_steady, Steady, steady}
+use Rattle.tally.specs.Settle.{settle_of}
 use Rattle.reader.specs.declared.Reader.{Reader}
-use Rattle.reader.specs.State.{Mid, mid, push, eat, pending, view, packed, in_order}
+use Rattle.reader.specs.State.{Mid, mid, push, eat, pending, view, packed}
 
 pub width_le : (k : ℕ) → width_at k ≤ 768
 width_le k = either (λ (n : ℕ). n ≤ 768) (eqb k 0) 256 768 (lit≤ tt) (lit≤ tt)
@@ -85,13 +81,6 @@ module _ (stop k left w : ℕ) (e : w ≡ ready_of stop k left) where
       by true true p e = absurd (h e)
       by true false p e = (eqb-true stop 0 p, e)
 
-  pub ready_none : w ≡ 0 → stop ≡ 0 → left < width_at k
-  ready_none h z = by (ltb left (width_at k)) refl (e ∙ sym (on_eq {x = cond (ltb left (width_at k)) 0 (width_at k)} 0 z refl))
-    where
-      by : (b : Bool) → ltb left (width_at k) ≡ b → w ≡ cond b 0 (width_at k) → left < width_at k
-      by true q e = ltb-true left (width_at k) q
-      by false q e = absurd (omega (arith, width_pos k))
-
   pub ready_le : w ≤ left
   ready_le = by (eqb stop 0) (ltb left (width_at k)) refl e
     where
@@ -134,22 +123,6 @@ module _ (r : Reader) (long : length r.held ≡ 768) (low : r.have ≤ 768) wher
       let z : 0 + r.have ≡ r.have = omega arith in
       ap (put r.have cut) (sym as_held)
       ∙ rw z at (put_put_at 0 r.have (pending r) cut r.held pending_long (omega arith))
-
--- a record across cuts: nothing of it was held, or its head was
-pub no_more : (have : ℕ) (held head : List ℕ) → have ≡ 0 → head ≡ take have held ++ head
-no_more have held head z = rw z
-
--- a state in order: the sums fit, and the unfinished record does not fill its slot
-pub record Ordered (r : Reader) : Type 0 where
-  pub fine : Steady r.tally
-  pub short : r.have < width_at r.tally.next
-  pub fits : r.have ≤ 768
-
-pub ordered : (r : Reader) {b : Bool} → b ≡ in_order r.tally r.have → not b ≡ false → Ordered r
-ordered r e n =
-    let h = both (is_steady r.tally) (ltb r.have (width_at r.tally.next)) (sym e ∙ not-false _ n) in
-    let l = ltb-true r.have (width_at r.tally.next) h.1 in
-    record { fine = steady r.tally h.0; short = l; fits = omega (arith, width_le r.tally.next) }
 
 -- the rest of a cut, from the start of a record on
 module _ (t ch : List ℕ) (r : Reader) (first : Tally) (cut : List ℕ) {tally : Tally} {at : ℕ}
@@ -210,15 +183,11 @@ module _ (t ch : List ℕ) (r : Reader) (long : length r.held ≡ 768) (low : r.
 
   pub eats_full : {first : Tally} {need : ℕ} {next : Reader} → r.tally.stop ≡ 0 → r.have + need ≡ width_at r.tally.next
       → need ≤ length cut → 0 < need → first ≡ settle_of r.page t ch r.tally (pending r ++ take need cut)
-      → next ≡ packed r (eat r.page t ch (mid first []) (take (length cut - need) (drop need cut)))
-      → next ≡ packed r (eat r.page t ch (view r) cut)
+      → next ≡ packed r (eat r.page t ch (mid first []) (drop need cut)) → next ≡ packed r (eat r.page t ch (view r) cut)
   eats_full {first} {need} {next} z h l pos f e =
-      let all : take (length cut - need) (drop need cut) ≡ drop need cut =
-      take_all (length cut - need) (drop need cut) (omega (arith, length-drop need cut)) in
       e
       ∙ ap (packed r)
-      (ap (eat r.page t ch (mid first [])) all
-      ∙ ap (λ (c : Tally). eat r.page t ch (mid c []) (drop need cut)) f
+      (ap (λ (c : Tally). eat r.page t ch (mid c []) (drop need cut)) f
       ∙ sym
       (eat_slot r.page t ch r.tally z (pending r) (take need cut) (drop need cut) (omega (arith, length-take need cut))
       (omega (arith, length-take need cut, pending_long r long low)))

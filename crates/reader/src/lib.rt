@@ -1,15 +1,17 @@
 // The judge of a file that arrives in cuts. A reader is a value: each cut is handed in with it, and it comes back changed.
 #![tactic(auto)]
 
-ghost use Rattle.std.specs.Prelude.{◌≡◌, [], ◌++◌, ◌+◌, ◌-◌, ◌≤◌, ◌<◌, length, take};
+ghost use Rattle.std.specs.Prelude.{◌≡◌, [], ◌++◌, ◌+◌, ◌-◌, ◌≤◌, ◌<◌, length, take, IfErr};
+ghost use Rattle.laws.specs.Found.{nonzero};
 ghost use Rattle.structure.specs.Slots.{width_at};
 ghost use Rattle.forwarding.specs.Put.{put};
 ghost use Rattle.tally.specs.Settle.{settle_of, Steady};
-ghost use Rattle.judge.specs.Verdict.{refused};
-ghost use Rattle.reader.specs.State.{answered, counted_of, in_order, mid, view, eat, packed, judged_of, found_of, NewAs, FedAs, EndedAs};
+ghost use Rattle.judge.specs.Refusal.{number_of, verdict_in};
+ghost use Rattle.reader.specs.State.{answer_in, counted_of, in_order, mid, view, eat, packed, judged_of, found_of, NewAs, FedAs, EndedAs};
 ghost use Rattle.reader.specs.Eats.{ready_of, Ate};
 
-use judge::Verdict;
+use judge::{Refusal, Totals, Verdict};
+use structure::{Fault, Misfit};
 use tally::Tally;
 
 // The judge's answer, and how many characters the table changes in a sound file.
@@ -24,7 +26,8 @@ pub struct Answer {
 #[derive(Clone, Copy)]
 pub struct Reader {
     pub page: u32,
-    // 0 while cuts may come; from the first end on, another number.
+    // 0 while cuts may come; from the first end on, another number. That and the answer, in place of an answer or none, are
+    // C's layout.
     pub ended: u32,
     // The bytes so far, up to one more than a file may have.
     pub bytes: usize,
@@ -32,7 +35,7 @@ pub struct Reader {
     pub tally: Tally,
     // From the first end on, its answer.
     pub answer: Answer,
-    // The unfinished record: the first `have` of the bytes held.
+    // The unfinished record: the first `have` of the bytes held. A length beside its bytes is C's layout.
     pub have: usize,
     pub held: [u8; 768],
 }
@@ -49,37 +52,30 @@ pub struct Read {
 fn counted(bytes: usize, more: usize) -> usize
     ensures { result ≡ counted_of bytes more }
 {
-    if 7679745 < bytes {
-        return 7679745;
-    }
-    if 7679745 - bytes < more {
-        return 7679745;
-    }
-    bytes + more
+    bytes.saturating_add(more).min(7679745)
 }
 
-// The width of the next slot where the bytes left fill it, or 0.
-fn ready(stop: usize, next: usize, left: usize) -> usize
-    ensures { result ≡ ready_of stop next left }
+// The width of the next slot, where the bytes left fill it.
+fn ready(stop: usize, next: usize, left: usize) -> Option<usize>
+    ensures { result ≡ nonzero (ready_of stop next left) }
 {
     if stop != 0 {
-        return 0;
+        return None;
     }
     let width = structure::width_at(next);
     if left < width {
-        return 0;
+        return None;
     }
-    width
+    Some(width)
 }
 
 // More bytes of the unfinished record.
-fn hold(held: [u8; 768], have: usize, more: &[u8]) -> [u8; 768]
+fn hold(mut held: [u8; 768], have: usize, more: &[u8]) -> [u8; 768]
     requires { have + length more.now ≤ 768 }
     ensures { result ≡ put have more.now held }
 {
-    let mut room = held;
-    room[have..have + more.len()].copy_from_slice(more);
-    room
+    held[have..have + more.len()].copy_from_slice(more);
+    held
 }
 
 // A record across cuts: what was held of it, and the head of this cut.
@@ -99,8 +95,7 @@ fn across(
         return tally.settle(page, head, transfer, cheque);
     }
     let whole = hold(held, have, head);
-    let end = have + head.len();
-    tally.settle(page, &whole[..end], transfer, cheque)
+    tally.settle(page, &whole[..have + head.len()], transfer, cheque)
 }
 
 // What the records that lie whole in a cut have shown, and where the last of them ends.
@@ -111,18 +106,15 @@ struct Along {
 }
 
 // From the start of a record on: each record that lies whole in the cut is judged where it lies.
-fn whole_records(page: u32, first: Tally, cut: &[u8], transfer: &[u8], cheque: &[u8]) -> Along
-    requires { Steady first }
-    ensures { Ate page transfer.now cheque.now first cut.now result.tally result.at }
+fn whole_records(page: u32, mut tally: Tally, cut: &[u8], transfer: &[u8], cheque: &[u8]) -> Along
+    requires { Steady tally }
+    ensures { Ate page transfer.now cheque.now tally cut.now result.tally result.at }
 {
-    let mut tally = first;
     let mut at = 0;
-    let mut width = ready(tally.stop, tally.next, cut.len());
-    while width != 0 {
+    while let Some(width) = ready(tally.stop, tally.next, cut.len() - at) {
         let end = at + width;
         tally = tally.settle(page, &cut[at..end], transfer, cheque);
         at = end;
-        width = ready(tally.stop, tally.next, cut.len() - at);
     }
     Along { tally, at }
 }
@@ -131,35 +123,33 @@ fn whole_records(page: u32, first: Tally, cut: &[u8], transfer: &[u8], cheque: &
 fn in_order(tally: Tally, have: usize) -> bool
     ensures { result ≡ in_order tally have }
 {
-    let width = structure::width_at(tally.next);
-    tally.is_steady() & (have < width)
+    tally.is_steady() & (have < structure::width_at(tally.next))
 }
 
-fn told(verdict: Verdict, changes: usize) -> Answer
-    ensures { result ≡ answered verdict changes }
+// The changes are those of a sound file.
+fn told(found: Result<Totals, Refusal>, changes: usize) -> Answer
+    ensures { result ≡ answer_in changes found }
 {
-    Answer { verdict, changes }
-}
-
-// A refusal at record 0.
-fn refusal(number: usize) -> Answer
-    ensures { result ≡ answered (refused number 0 0) 0 }
-{
-    told(judge::refusal(number, 0, 0), 0)
+    Answer {
+        verdict: Verdict::from(found),
+        changes: if found.is_ok() { changes } else { 0 },
+    }
 }
 
 impl Reader {
+    #[tactic(auto, unfolding(crate::specs::State::new_of))]
     pub fn new(page: u32) -> Self
         ensures { NewAs page result }
     {
-        let tally = Tally::new();
-        let answer = refusal(0);
         Self {
             page,
             ended: 0,
             bytes: 0,
-            tally,
-            answer,
+            tally: Tally::new(),
+            answer: Answer {
+                verdict: Verdict::refused(0, 0, 0),
+                changes: 0,
+            },
             have: 0,
             held: [0; 768],
         }
@@ -171,18 +161,14 @@ impl Reader {
         ensures { result ≡ packed self (eat self.page transfer.now cheque.now (mid first []) cut.now) }
     {
         let done = whole_records(self.page, first, cut, transfer, cheque);
-        let at = done.at;
-        let tally = done.tally;
-        let stop = tally.stop;
-        self.tally = tally;
-        if stop != 0 {
+        self.tally = done.tally;
+        if self.tally.stop != 0 {
             self.have = 0;
             return self;
         }
-        let held = self.held;
-        let left = hold(held, 0, &cut[at..]);
-        self.held = left;
-        self.have = cut.len() - at;
+        let left = &cut[done.at..];
+        self.held = hold(self.held, 0, left);
+        self.have = left.len();
         self
     }
 
@@ -190,93 +176,77 @@ impl Reader {
         requires { Steady self.tally × (self.have < width_at self.tally.next) }
         ensures { result ≡ packed self (eat self.page transfer.now cheque.now (view self) cut.now) }
     {
-        let tally = self.tally;
-        let stop = tally.stop;
-        let held = self.held;
-        if stop != 0 {
+        if self.tally.stop != 0 {
             return self;
         }
-        let have = self.have;
-        let need = structure::width_at(tally.next) - have;
-        let n = cut.len();
-        if n < need {
-            let more = hold(held, have, cut);
-            self.held = more;
-            self.have = have + n;
+        let need = structure::width_at(self.tally.next) - self.have;
+        let Some((head, rest)) = cut.split_at_checked(need) else {
+            self.held = hold(self.held, self.have, cut);
+            self.have += cut.len();
             return self;
-        }
-        let first = across(self.page, tally, held, have, &cut[..need], transfer, cheque);
-        self.rest(first, &cut[need..], transfer, cheque)
+        };
+        let first = across(
+            self.page, self.tally, self.held, self.have, head, transfer, cheque,
+        );
+        self.rest(first, rest, transfer, cheque)
     }
 
     // A cut, with the lists by which the records that it completes are judged.
+    #[tactic(auto, unfolding(crate::specs::State::fed_of))]
     pub fn feed(mut self, cut: &[u8], transfer: &[u8], cheque: &[u8]) -> Self
         ensures { FedAs self cut.now transfer.now cheque.now result }
     {
-        let late = self.ended;
-        if late != 0 {
+        if self.ended != 0 {
             return self;
         }
-        let tally = self.tally;
-        let sane = in_order(tally, self.have);
-        if !sane {
+        if !in_order(self.tally, self.have) {
             return self;
         }
         self.bytes = counted(self.bytes, cut.len());
         self.eat(cut, transfer, cheque)
     }
 
-    fn judged(self) -> Verdict
-        ensures { result ≡ judged_of self }
+    #[tactic(auto, unfolding(crate::specs::State::judged_of))]
+    fn judged(self) -> Result<Totals, Refusal>
+        ensures answer { verdict_in result ≡ judged_of self }
+        ensures real { IfErr result (λ r. number_of r ≡ 0 → ⊥) }
     {
-        let page = self.page;
-        let exists = charset::is_page(page);
-        if !exists {
-            return judge::refusal(7, 0, 0);
+        if !charset::is_page(self.page) {
+            return Err(Refusal::NoSuchPage);
         }
-        let tally = self.tally;
-        let have = self.have;
-        let sane = in_order(tally, have);
-        if !sane {
-            return judge::refusal(2, 0, 0);
+        if !in_order(self.tally, self.have) {
+            return Err(Refusal::from(Misfit {
+                fault: Fault::CutShort,
+                rec: 0,
+            }));
         }
-        let held = self.held;
-        tally.conclude(page, self.bytes, &held[..have])
+        self.tally
+            .conclude(self.page, self.bytes, &self.held[..self.have])
     }
 
-    fn found(self, taken: &[u64]) -> Answer
-        ensures { result ≡ found_of self taken.now }
+    #[tactic(auto, unfolding(crate::specs::State::found_of))]
+    fn found(self, taken: &[u64]) -> Result<Totals, Refusal>
+        ensures { answer_in self.tally.changes result ≡ found_of self taken.now }
     {
-        let tally = self.tally;
-        let verdict = self.judged();
-        let number = verdict.number;
-        if number != 0 {
-            return told(verdict, 0);
+        let totals = self.judged()?;
+        if fields::taken(taken, self.tally.number) {
+            return Err(Refusal::Taken);
         }
-        if fields::taken(taken, tally.number) {
-            return refusal(50);
-        }
-        told(verdict, tally.changes)
+        Ok(totals)
     }
 
     // The first end answers by its own list; every later one answers the same.
+    #[tactic(auto, unfolding(crate::specs::State::end_of))]
     pub fn end(mut self, taken: &[u64]) -> Read
         ensures { EndedAs self taken.now result }
     {
-        let ended = self.ended;
-        if ended != 0 {
-            let answer = self.answer;
-            return Read {
-                reader: self,
-                answer,
-            };
+        if self.ended == 0 {
+            self.answer = told(self.found(taken), self.tally.changes);
+            self.ended = 1;
         }
-        let answer = self.found(taken);
-        self.ended = 1;
-        self.answer = answer;
         Read {
             reader: self,
-            answer,
+            answer: self.answer,
         }
     }
 }

@@ -14,57 +14,79 @@ use Rattle.laws.specs.Choice.{either}
 abbrev pub Inside : ℕ → Span → Type 0
 Inside n s = (s.start ≤ s.end) × (s.end ≤ n)
 
-here : {n : ℕ} {s : Span} → T (leb s.start s.end) × T (leb s.end n) → Inside n s
-here h = (leb→le _ _ h.0, leb→le _ _ h.1)
+-- what is computed of each field: it begins behind the head of a record, and ends in it
+abbrev Lies : ℕ → Span → Type 0
+Lies n s = T (leb 5 s.start) × (T (leb s.start s.end) × T (leb s.end n))
+
+here : {n : ℕ} {s : Span} → Lies n s → Inside n s
+here h = (leb→le _ _ h.1.0, leb→le _ _ h.1.1)
+
+q_lies : (field : QField) → Lies 256 (q_place field)
+q_lies Q3 = (tt, (tt, tt))
+q_lies Q4 = (tt, (tt, tt))
+q_lies Q5 = (tt, (tt, tt))
+q_lies Q6 = (tt, (tt, tt))
+q_lies Q7 = (tt, (tt, tt))
+q_lies Q8 = (tt, (tt, tt))
+q_lies Q9 = (tt, (tt, tt))
+q_lies Q10 = (tt, (tt, tt))
+q_lies Q11 = (tt, (tt, tt))
+q_lies Q12 = (tt, (tt, tt))
 
 pub q_inside : (field : QField) → Inside 256 (q_place field)
-q_inside Q3 = here (tt, tt)
-q_inside Q4 = here (tt, tt)
-q_inside Q5 = here (tt, tt)
-q_inside Q6 = here (tt, tt)
-q_inside Q7 = here (tt, tt)
-q_inside Q8 = here (tt, tt)
-q_inside Q9 = here (tt, tt)
-q_inside Q10 = here (tt, tt)
-q_inside Q11 = here (tt, tt)
-q_inside Q12 = here (tt, tt)
+q_inside field = here (q_lies field)
+
+pub q_behind : (field : QField) → 5 ≤ (q_place field).start
+q_behind field = leb→le _ _ (q_lies field).0
+
+t_lies : (field : TField) → Lies 768 (t_place field)
+t_lies T3 = (tt, (tt, tt))
+t_lies T4a = (tt, (tt, tt))
+t_lies T4b = (tt, (tt, tt))
+t_lies T5 = (tt, (tt, tt))
+t_lies T6 = (tt, (tt, tt))
+t_lies T7a = (tt, (tt, tt))
+t_lies T7b = (tt, (tt, tt))
+t_lies T8 = (tt, (tt, tt))
+t_lies T9a = (tt, (tt, tt))
+t_lies T9b = (tt, (tt, tt))
+t_lies T10a = (tt, (tt, tt))
+t_lies T10b = (tt, (tt, tt))
+t_lies T11 = (tt, (tt, tt))
+t_lies T12 = (tt, (tt, tt))
+t_lies T13 = (tt, (tt, tt))
+t_lies T14a = (tt, (tt, tt))
+t_lies T14b = (tt, (tt, tt))
+t_lies T15 = (tt, (tt, tt))
+t_lies T16 = (tt, (tt, tt))
+t_lies T17 = (tt, (tt, tt))
+t_lies T18 = (tt, (tt, tt))
+t_lies T19 = (tt, (tt, tt))
+t_lies T20 = (tt, (tt, tt))
+t_lies T21 = (tt, (tt, tt))
+t_lies T22 = (tt, (tt, tt))
+t_lies T23 = (tt, (tt, tt))
+t_lies T24 = (tt, (tt, tt))
+t_lies T25 = (tt, (tt, tt))
+t_lies T26 = (tt, (tt, tt))
+t_lies T27 = (tt, (tt, tt))
 
 pub t_inside : (field : TField) → Inside 768 (t_place field)
-t_inside T3 = here (tt, tt)
-t_inside T4a = here (tt, tt)
-t_inside T4b = here (tt, tt)
-t_inside T5 = here (tt, tt)
-t_inside T6 = here (tt, tt)
-t_inside T7a = here (tt, tt)
-t_inside T7b = here (tt, tt)
-t_inside T8 = here (tt, tt)
-t_inside T9a = here (tt, tt)
-t_inside T9b = here (tt, tt)
-t_inside T10a = here (tt, tt)
-t_inside T10b = here (tt, tt)
-t_inside T11 = here (tt, tt)
-t_inside T12 = here (tt, tt)
-t_inside T13 = here (tt, tt)
-t_inside T14a = here (tt, tt)
-t_inside T14b = here (tt, tt)
-t_inside T15 = here (tt, tt)
-t_inside T16 = here (tt, tt)
-t_inside T17 = here (tt, tt)
-t_inside T18 = here (tt, tt)
-t_inside T19 = here (tt, tt)
-t_inside T20 = here (tt, tt)
-t_inside T21 = here (tt, tt)
-t_inside T22 = here (tt, tt)
-t_inside T23 = here (tt, tt)
-t_inside T24 = here (tt, tt)
-t_inside T25 = here (tt, tt)
-t_inside T26 = here (tt, tt)
-t_inside T27 = here (tt, tt)
+t_inside field = here (t_lies field)
+
+pub t_behind : (field : TField) → 5 ≤ (t_place field).start
+t_behind field = leb→le _ _ (t_lies field).0
+
+z_lies : (field : ZField) → Lies 256 (z_place field)
+z_lies Z3 = (tt, (tt, tt))
+z_lies Z4 = (tt, (tt, tt))
+z_lies Z5 = (tt, (tt, tt))
 
 pub z_inside : (field : ZField) → Inside 256 (z_place field)
-z_inside Z3 = here (tt, tt)
-z_inside Z4 = here (tt, tt)
-z_inside Z5 = here (tt, tt)
+z_inside field = here (z_lies field)
+
+pub z_behind : (field : ZField) → 5 ≤ (z_place field).start
+z_behind field = leb→le _ _ (z_lies field).0
 
 -- of a place that is another's, and of the record itself
 pub inside : {n m : ℕ} {s r : Span} → r ≡ s → Inside n s → m ≡ n → Inside m r

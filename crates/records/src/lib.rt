@@ -2,11 +2,12 @@
 #![tactic(auto)]
 
 ghost use Rattle.std.specs.Prelude.{◌≡◌, ◌≤◌, ◌<◌, length};
-ghost use Rattle.records.specs.Inside.{Held};
+ghost use Rattle.records.specs.declared.Span.{Span};
+ghost use Rattle.records.specs.Inside.{Held, Inside, q_inside, t_inside, z_inside, q_behind, t_behind, z_behind};
 ghost use Rattle.records.specs.Places.{◌to◌, record_at, line_of, PartOf, q_place, t_place, z_place, q_text, t_text};
 
 // A place in a record: the first offset, and the one after the last.
-#[derive(Drop)]
+#[derive(Clone, Copy, PartialEq, Eq)]
 pub struct Span {
     pub start: usize,
     pub end: usize,
@@ -24,13 +25,12 @@ fn to(first: usize, last: usize) -> Span
 }
 
 // The bytes at a place, where the caller has them.
+#[tactic(auto, unfolding(crate::specs::Places::part))]
 pub fn part(rec: &[u8], at: Span) -> &[u8]
     requires { (at.start ≤ at.end) × (at.end ≤ length rec.now) }
     ensures { PartOf at rec.entry.ref_ptr rec.now result.ref_ptr result.now }
 {
-    let start = at.start;
-    let end = at.end;
-    &rec[start..end]
+    &rec[at.start..at.end]
 }
 
 // Line 1, 2, 3 or 4 of a field of four lines of 35.
@@ -38,11 +38,29 @@ pub fn line(field: Span, k: usize) -> Span
     requires { (field.start ≤ 768) × ((1 ≤ k) × (k ≤ 4)) }
     ensures { result ≡ line_of field k }
 {
-    let start = field.start;
     Span {
-        start: start + 35 * (k - 1),
-        end: start + 35 * k,
+        start: field.start + 35 * (k - 1),
+        end: field.start + 35 * k,
     }
+}
+
+// The fields of a kind of record of N bytes: where each stands, and that it lies in the record, behind its head.
+pub trait Field<const N: usize> {
+    ghost place: { Self → Span };
+
+    fn place(self) -> Span
+        ensures { result ≡ place self };
+
+    ghost inside: { (f : Self) → Inside N (place f) };
+
+    ghost behind: { (f : Self) → 5 ≤ (place f).start };
+}
+
+// The bytes of a field.
+pub fn bytes<const N: usize, F: Field<N> + Copy>(rec: &[u8; N], f: F) -> &[u8]
+    ensures { Held (F.place f) rec.now result.now }
+{
+    part(rec, f.place())
 }
 
 // Where record k stands in a file.
@@ -60,7 +78,7 @@ pub fn record_at(k: usize) -> usize
 #[derive(Drop)]
 pub struct Q {}
 
-#[derive(Drop)]
+#[derive(Clone, Copy, PartialEq, Eq)]
 pub enum QField {
     Q3,
     Q4,
@@ -74,15 +92,15 @@ pub enum QField {
     Q12,
 }
 
-impl Q {
-    pub const LETTER: u8 = b'Q';
+impl Field<256> for QField {
+    ghost place = { q_place };
 
-    pub const LENGTH: usize = 256;
+    ghost inside = { q_inside };
 
-    pub fn place(field: QField) -> Span
-        ensures { result ≡ q_place field }
-    {
-        match field {
+    ghost behind = { q_behind };
+
+    fn place(self) -> Span {
+        match self {
             QField::Q3 => to(5, 12),
             QField::Q4 => to(13, 22),
             QField::Q5 => to(23, 162),
@@ -94,6 +112,18 @@ impl Q {
             QField::Q11 => to(180, 187),
             QField::Q12 => to(188, 255),
         }
+    }
+}
+
+impl Q {
+    pub const LETTER: u8 = b'Q';
+
+    pub const LENGTH: usize = 256;
+
+    pub fn place(field: QField) -> Span
+        ensures { result ≡ q_place field }
+    {
+        field.place()
     }
 
     // The bytes of a field.
@@ -109,7 +139,7 @@ impl Q {
         ensures { result ≡ q_text k }
     {
         match k {
-            1 => Q::place(QField::Q5),
+            1 => QField::Q5.place(),
             _ => Span { start: 0, end: 0 },
         }
     }
@@ -119,7 +149,7 @@ impl Q {
 #[derive(Drop)]
 pub struct T {}
 
-#[derive(Drop)]
+#[derive(Clone, Copy, PartialEq, Eq)]
 pub enum TField {
     T3,
     T4a,
@@ -153,15 +183,15 @@ pub enum TField {
     T27,
 }
 
-impl T {
-    pub const LETTER: u8 = b'T';
+impl Field<768> for TField {
+    ghost place = { t_place };
 
-    pub const LENGTH: usize = 768;
+    ghost inside = { t_inside };
 
-    pub fn place(field: TField) -> Span
-        ensures { result ≡ t_place field }
-    {
-        match field {
+    ghost behind = { t_behind };
+
+    fn place(self) -> Span {
+        match self {
             TField::T3 => to(5, 12),
             TField::T4a => to(13, 15),
             TField::T4b => to(16, 25),
@@ -194,6 +224,18 @@ impl T {
             TField::T27 => to(766, 767),
         }
     }
+}
+
+impl T {
+    pub const LETTER: u8 = b'T';
+
+    pub const LENGTH: usize = 768;
+
+    pub fn place(field: TField) -> Span
+        ensures { result ≡ t_place field }
+    {
+        field.place()
+    }
 
     // The bytes of a field.
     pub fn field(rec: &[u8], field: TField) -> &[u8]
@@ -208,14 +250,14 @@ impl T {
         ensures { result ≡ t_text k }
     {
         match k {
-            2 => T::place(TField::T8),
-            3 => T::place(TField::T9b),
-            4 => T::place(TField::T10b),
-            5 => T::place(TField::T12),
-            6 => T::place(TField::T15),
-            7 => T::place(TField::T20),
-            8 => T::place(TField::T23),
-            9 => T::place(TField::T24),
+            2 => TField::T8.place(),
+            3 => TField::T9b.place(),
+            4 => TField::T10b.place(),
+            5 => TField::T12.place(),
+            6 => TField::T15.place(),
+            7 => TField::T20.place(),
+            8 => TField::T23.place(),
+            9 => TField::T24.place(),
             _ => Span { start: 0, end: 0 },
         }
     }
@@ -225,11 +267,27 @@ impl T {
 #[derive(Drop)]
 pub struct Z {}
 
-#[derive(Drop)]
+#[derive(Clone, Copy, PartialEq, Eq)]
 pub enum ZField {
     Z3,
     Z4,
     Z5,
+}
+
+impl Field<256> for ZField {
+    ghost place = { z_place };
+
+    ghost inside = { z_inside };
+
+    ghost behind = { z_behind };
+
+    fn place(self) -> Span {
+        match self {
+            ZField::Z3 => to(5, 19),
+            ZField::Z4 => to(20, 34),
+            ZField::Z5 => to(35, 255),
+        }
+    }
 }
 
 impl Z {
@@ -240,11 +298,7 @@ impl Z {
     pub fn place(field: ZField) -> Span
         ensures { result ≡ z_place field }
     {
-        match field {
-            ZField::Z3 => to(5, 19),
-            ZField::Z4 => to(20, 34),
-            ZField::Z5 => to(35, 255),
-        }
+        field.place()
     }
 
     // The bytes of a field.

@@ -1,4 +1,5 @@
 pub mod Wrong
+pub mod Told
 pub mod Q
 pub mod Z
 pub mod Faults

@@ -5,7 +5,7 @@ use Rattle.laws.specs.Sums.{sum_of}
 use Rattle.charset.specs.Table.{rep}
 use Rattle.structure.specs.Slots.{slot_at}
 use Rattle.structure.specs.Walk.{structure_of}
-use Rattle.structure.specs.declared.Shape.TheVariants.{Fits}
+use Rattle.structure.specs.Shape.{Fits}
 use Rattle.forwarding.specs.Text.{q_texts, lies}
 use Rattle.forwarding.specs.Forwarded.{fwd, forwarded, notes_of}
 use Rattle.forwarding.specs.Put.{put, put_part}

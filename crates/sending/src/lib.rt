@@ -3,83 +3,74 @@
 #![tactic(auto)]
 
 ghost use Rattle.std.specs.Prelude.{◌≡◌, ◌+◌, ◌*◌, ◌<◌, length};
+ghost use Rattle.laws.specs.Found.{nonzero, or_zero};
 ghost use Rattle.sorting.specs.Kept.{digits, fresh_z};
 ghost use Rattle.structure.specs.Walk.{structure_of};
-ghost use Rattle.structure.specs.declared.Shape.TheVariants.{Fits};
+ghost use Rattle.structure.specs.Shape.{Fits};
 ghost use Rattle.sending.specs.Turns.{Paid, RoomFor};
 ghost use Rattle.sending.specs.Sending.{RoomsIn, Sent};
 ghost use Rattle.sending.specs.Whole.{CanSend, FileSent};
 
-use records::{Q, T, Z, ZField};
+use records::{Field, Q, T, Z, ZField};
 
 // A number in digits, as many as there is room for.
 fn digits(n: u64, out: &mut [u8])
     ensures { out.new ≡ digits (length out.old) n }
 {
     let mut rest = n;
-    let mut i = out.len();
-    while 0 < i {
-        i -= 1;
+    for i in (0..out.len()).rev() {
         out[i] = b'0' + ((rest % 10) as u8);
-        rest = rest / 10;
+        rest /= 10;
     }
 }
 
 // Z into its part of the output, with fresh Z3 and Z4.
-fn fresh_z(z: &[u8], payments: u64, euros: u64, part: &mut [u8])
-    requires { (length z.now ≡ 256) × (length part.old ≡ 256) }
+fn fresh_z(z: &[u8; 256], payments: u64, euros: u64, part: &mut [u8])
+    requires { length part.old ≡ 256 }
     ensures { part.new ≡ fresh_z z.now payments euros }
 {
     part.copy_from_slice(z);
-    let z3 = Z::place(ZField::Z3);
-    let start = z3.start;
-    let end = z3.end;
-    digits(euros, &mut part[start..end]);
-    let z4 = Z::place(ZField::Z4);
-    let from = z4.start;
-    let to = z4.end;
-    digits(payments, &mut part[from..to]);
+    let z3 = ZField::Z3.place();
+    digits(euros, &mut part[z3.start..z3.end]);
+    let z4 = ZField::Z4.place();
+    digits(payments, &mut part[z4.start..z4.end]);
 }
 
 // Where the next kept payment, the next note and the next name go.
-#[derive(Drop)]
+#[derive(Clone, Copy, PartialEq, Eq)]
 pub struct Next {
     pub at: usize,
     pub notes: usize,
     pub names: usize,
 }
 
-// T record k, whose first broken rule is this one: placed and noted where it breaks none, else named.
+// T record k: named with its first broken rule where it breaks one, else placed and noted.
 fn payment(
     page: u32,
-    rec: &[u8],
+    rec: &[u8; 768],
     k: usize,
-    rule: usize,
+    rule: Option<usize>,
     next: Next,
     out: &mut [u8],
     notes: &mut [u32],
     list: &mut [u32],
 ) -> Next
-    requires { (length rec.now ≡ 768) × RoomFor rec.now k rule next out.old notes.old list.old }
-    ensures { Paid page rec.now k rule next out.old notes.old list.old result out.new notes.new list.new }
+    requires { (rule ≡ nonzero (or_zero rule)) × RoomFor rec.now k (or_zero rule) next out.old notes.old list.old }
+    ensures { Paid page rec.now k (or_zero rule) next out.old notes.old list.old result out.new notes.new list.new }
 {
-    let at = next.at;
-    let have = next.notes;
-    let names = next.names;
-    if rule != 0 {
-        list[names] = (k * 100 + rule) as u32;
+    if let Some(rule) = rule {
+        list[next.names] = (k * 100 + rule) as u32;
         return Next {
-            at,
-            notes: have,
-            names: names + 1,
+            names: next.names + 1,
+            ..next
         };
     }
-    let end = at + T::LENGTH;
-    let n = place::t_record(page, rec, &mut out[at..end], at, notes, have);
+    let end = next.at + T::LENGTH;
+    let have = place::t_record(page, rec, &mut out[next.at..end], next.at, notes, next.notes);
     Next {
         at: end,
-        notes: n,
-        names,
+        notes: have,
+        ..next
     }
 }
 
@@ -104,10 +95,8 @@ fn t_records(
         notes: have,
         names: 0,
     };
-    let mut k = 0;
-    while k < n {
-        k += 1;
-        let t = structure::slot(file, k);
+    for k in 1..n + 1 {
+        let t = structure::slot(file, k).as_array::<768>().unwrap();
         let rule = sorting::first_rule(page, transfer, cheque, key, t);
         next = payment(page, t, k, rule, next, out, notes, list);
     }
@@ -133,7 +122,7 @@ pub fn file(
     let q = structure::slot(file, 0);
     let have = place::q_record(page, q, &mut out[0..Q::LENGTH], notes);
     let next = t_records(page, file, n, transfer, cheque, have, out, notes, list);
-    let at = next.at;
-    let end = at + Z::LENGTH;
-    fresh_z(structure::slot(file, n + 1), kept, euros, &mut out[at..end]);
+    let end = next.at + Z::LENGTH;
+    let z = structure::slot(file, n + 1).as_array::<256>().unwrap();
+    fresh_z(z, kept, euros, &mut out[next.at..end]);
 }

@@ -11,8 +11,7 @@ use Rattle.records.specs.declared.Span.{Span}
 use Rattle.structure.specs.Slots.{place_is}
 use Rattle.structure.specs.Walk.{structure_of}
 use Rattle.structure.specs.Fits.{Fit, fits}
-use Rattle.structure.specs.declared.Shape.{Shape}
-use Rattle.structure.specs.declared.Shape.TheVariants.{Fits, Refused}
+use Rattle.structure.specs.Shape.{Shape, Fits, Refused}
 
 -- a place in a record that starts at an offset of the file; nowhere stays nowhere
 abbrev pub moved : ℕ → Span → Span

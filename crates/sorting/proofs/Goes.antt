@@ -1,6 +1,6 @@
 -- A file that goes on: what its answer means. Its kept file is sound, and is the file itself where nothing is returned.
 use Prim.Native.Nat.{ℕ, ◌+◌, ◌≤◌, ◌<◌}
-use Rattle.std.specs.Prelude.{◌≡◌, Bool, leb, get_or}
+use Rattle.std.specs.Prelude.{◌≡◌, Bool, leb, get_or, Result, Ok, Err, IfErr}
 use Rattle.std.proofs.Math.Path.{refl, ap, subst}
 use Rattle.std.proofs.Common.{sym, ◌∙◌, inl, inr, arith}
 use Rattle.std.proofs.Math.Bool.{true, false, cond}
@@ -15,8 +15,7 @@ use Rattle.payments.specs.Rules.{key_of}
 use Rattle.structure.specs.Slots.{slot_at}
 use Rattle.structure.specs.Walk.{structure_of}
 use Rattle.structure.specs.Fits.{Tells, tells}
-use Rattle.structure.specs.declared.Shape.{Shape}
-use Rattle.structure.specs.declared.Shape.TheVariants.{Fits, Refused}
+use Rattle.structure.specs.Shape.{Shape, Fits, Refused}
 use Rattle.judge.specs.Content.{fault_of, rule_from, rule_end, rule_real}
 use Rattle.judge.specs.Meaning.{rules_hold}
 use Rattle.judge.specs.ByKind.{of_q, of_z}
@@ -24,6 +23,10 @@ use Rattle.judge.specs.Sums.{euros, euro_sum}
 use Rattle.judge.specs.ByRecords.{structure_by_records, sound_by_records}
 use Rattle.judge.specs.Verdict.{verdict_of}
 use Rattle.sorting.specs.Kept.{first_of, kept, t_records, rule_in, kept_in, returned_in, kept_by, kept_file}
+use Rattle.judge.specs.Refusal.{number_of}
+use Rattle.judge.specs.declared.Refusal.{Refusal}
+use Rattle.sorting.specs.Answer.{sorted_of}
+use Rattle.sorting.specs.declared.Going.{Going}
 use Rattle.sorting.specs.Sorted.{unsorted, goes_on, no_amount, rule_at, behind_q, sort_by, sort_of}
 use Rattle.sorting.specs.Fresh.{ZRight, z_right}
 use Rattle.sorting.specs.Lists.{kept_whole}
@@ -86,6 +89,16 @@ module _ (page : ℕ) (file transfer cheque : List ℕ) where
       go true (Refused number rec) p e (inl t) is z = absurd (omega (arith, t.1, ap (λ (s : Sorted). s.number) is))
       go true (Refused number rec) p e (inr t) is z = absurd (t.1.real (sym (ap (λ (s : Sorted). s.number) is) ∙ z))
       go false s p e w is z = absurd (omega (arith, ap (λ (s : Sorted). s.number) is))
+
+  -- so the number of a refusal is never 0
+  pub refused_real : {number rec : ℕ} → unsorted number rec ≡ sort_of page file transfer cheque → number ≡ 0 → ⊥
+  refused_real e z =
+      let g = goes (sym (ap (λ (s : Sorted). s.number) e) ∙ z) in
+      omega (arith, ap (λ (s : Sorted). s.payments.kept) (e ∙ g.1.answer), g.1.some)
+
+  pub answer_real : (r : Result Going Refusal) → sorted_of r ≡ sort_of page file transfer cheque → IfErr r (λ why. number_of why ≡ 0 → ⊥)
+  answer_real (Ok g) e = tt
+  answer_real (Err why) e = refused_real e
 
 -- what it has, by its records
 module _ (page : ℕ) (file transfer cheque : List ℕ) (n : ℕ) (g : GoesOn page file transfer cheque n) where

@@ -15,7 +15,7 @@ use Rattle.payments.specs.Rules.{in_t, key_of, rule33}
 use Rattle.payments.specs.Faults.{t_fault}
 use Rattle.structure.specs.Slots.{slot_at}
 use Rattle.structure.specs.Walk.{structure_of}
-use Rattle.structure.specs.declared.Shape.TheVariants.{Fits}
+use Rattle.structure.specs.Shape.{Fits}
 use Rattle.judge.specs.Content.{content_of}
 use Rattle.judge.specs.Sums.{euros, euro_sum, cent_sum}
 use Rattle.judge.specs.Records.{file_of}

@@ -1,9 +1,10 @@
 -- The turns of counting what is kept: a payment more, which is kept or not.
-use Rattle.std.specs.Prelude.{ℕ, ◌+◌, ◌*◌, ◌-◌, ◌≤◌, ◌<◌, ◌≡◌, refl, Bool, true, false, cond, eqb, length}
+use Rattle.std.specs.Prelude.{ℕ, ◌+◌, ◌*◌, ◌-◌, ◌≤◌, ◌<◌, ◌≡◌, refl, Bool, true, false, cond, eqb, length, Option, None, Some, is_some}
 use Rattle.std.proofs.Common.{sym, ap, subst, ◌∙◌, arith, eqb-true, length-append, take_at}
 use mathlib.Core.List.{List, [], ◌∷◌, ◌++◌}
-use Rattle.std.proofs.lemmas.Bool.{eqb-false}
+use Rattle.std.proofs.lemmas.Bool.{eqb-false, false≢true, true≢false}
 use Rattle.laws.specs.Choice.{on_eq, off_eq}
+use Rattle.laws.specs.Found.{nonzero, of_none, of_some_ne}
 use Rattle.laws.specs.Sums.{sum_of, sum_append}
 use Rattle.forwarding.specs.Text.{q_texts, t_texts}
 use Rattle.forwarding.specs.Forwarded.{notes_of}
@@ -16,7 +17,7 @@ use Rattle.judge.specs.Records.{joined, file_of, Lengths}
 use Rattle.judge.specs.Apart.{slots_from, slots_count}
 use Rattle.structure.specs.Slots.{slot_at}
 use Rattle.structure.specs.Walk.{structure_of}
-use Rattle.structure.specs.declared.Shape.TheVariants.{Fits}
+use Rattle.structure.specs.Shape.{Fits}
 use Rattle.sorting.specs.Kept.{kept, t_records, rule_in, kept_in, kept_file}
 use Rattle.sorting.specs.Lists.{counts_add}
 use Rattle.sorting.specs.Course.{place_of, kept_more, kept_no_more, records_sized, z_at_place, kept_below, kept_here}
@@ -50,6 +51,15 @@ module _ (f : Figures) (rule : ℕ) (t : List ℕ) where
 
   pub one_kept : {e c : ℕ} → rule ≡ 0 → e ≡ euros t → c ≡ field_changes t_texts t → figures_are (f.payments + 1) (f.euros + e) (f.changes + c) ≡ with_one f rule t
   one_kept r p q = on_eq _ r (λ i. figures_are (f.payments + 1) (f.euros + p i) (f.changes + q i))
+
+-- no rule is found, or one is
+is_zero : (o : Option ℕ) {r : ℕ} → o ≡ nonzero r → is_some o ≡ false → r ≡ 0
+is_zero None e t = of_none e
+is_zero (Some x) e t = absurd (true≢false t)
+
+is_real : (o : Option ℕ) {r : ℕ} → o ≡ nonzero r → is_some o ≡ true → r ≡ 0 → ⊥
+is_real None e t = absurd (false≢true t)
+is_real (Some x) e t = of_some_ne e
 
 -- f are the figures of the T records us, the first of those of which the kept stand in the file
 pub record CountedTo (rule : List ℕ → ℕ) (us : List (List ℕ)) (file : List ℕ) (f : Figures) : Type 0 where
@@ -168,6 +178,31 @@ module _ (page : ℕ) (file transfer cheque : List ℕ) (n : ℕ) (e : structure
     counted_next first asked =
         counted_behind (t_records file) (z_of file n e page transfer cheque) k first l (records_split file n e k l)
         (kept_lengths file n e page transfer cheque) (kept_few file n e page transfer cheque) asked h
+
+  -- record k is counted behind those before it: one that is kept, and one that is returned
+  module _ (k : ℕ) (low : 1 ≤ k) (high : k ≤ n) {f : Figures} (h : CountedIn page file transfer cheque (k - 1) f) where
+    record_counted : (first : ℕ) → first ≡ rule (slot_at file k)
+        → Small f × CountedIn page file transfer cheque (k + 1 - 1) (with_one f first (slot_at file k))
+    record_counted first asked =
+        let back : k - 1 + 1 ≡ k = omega arith in
+        let here : k - 1 + 1 ≡ k + 1 - 1 = omega arith in
+        let next = counted_next (k - 1) (omega arith) h first (asked ∙ ap (λ (j : ℕ). rule (slot_at file j)) (sym back)) in (
+          next.0,
+          subst (λ (m : ℕ). CountedIn page file transfer cheque m (with_one f first (slot_at file k))) here
+              (subst (λ (j : ℕ). CountedIn page file transfer cheque (k - 1 + 1) (with_one f first (slot_at file j))) back next.1),
+        )
+
+    pub counted_small : Small f
+    counted_small = (record_counted (rule (slot_at file k)) refl).0
+
+    module _ (o : Option ℕ) (told : o ≡ nonzero (rule (slot_at file k))) where
+      pub counted_kept : is_some o ≡ false → CountedIn page file transfer cheque (k + 1 - 1) (with_one f 0 (slot_at file k))
+      counted_kept t = (record_counted 0 (sym (is_zero o told t))).1
+
+      pub counted_returned : is_some o ≡ true → CountedIn page file transfer cheque (k + 1 - 1) f
+      counted_returned t =
+          subst (CountedIn page file transfer cheque (k + 1 - 1)) (sym (one_returned f (rule (slot_at file k)) (slot_at file k) (is_real o told t)))
+          (record_counted (rule (slot_at file k)) refl).1
 
   pub counted_all : {f : Figures} → CountedIn page file transfer cheque n f → f ≡ figures_of page file transfer cheque
   unfolding kept_file figures_of

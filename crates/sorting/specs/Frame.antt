@@ -1,14 +1,13 @@
 -- A file that fits, with n T records: its records, its kept file's, and record k + 1 among them.
 use Rattle.std.specs.Prelude.{ℕ, suc, ◌+◌, ◌-◌, ◌≤◌, ◌<◌, ◌≡◌, List, [], ◌∷◌, ◌++◌, length}
-use Rattle.std.proofs.Common.{sym, ap₂, subst, ◌∙◌, arith}
+use Rattle.std.proofs.Common.{refl, sym, ap₂, subst, ◌∙◌, arith}
 use Rattle.std.proofs.Math.Path.{ap}
 use Rattle.laws.specs.Sums.{sum_of}
 use Rattle.records.specs.Places.{record_at}
 use Rattle.structure.specs.Slots.{slot_at, q_long, t_long, z_long, place_in}
 use Rattle.structure.specs.Walk.{structure_of}
 use Rattle.structure.specs.Fits.{Fit, fits}
-use Rattle.structure.specs.declared.Shape.{Shape}
-use Rattle.structure.specs.declared.Shape.TheVariants.{Fits}
+use Rattle.structure.specs.Shape.{Shape, Fits}
 use Rattle.judge.specs.Sums.{euros}
 use Rattle.judge.specs.Records.{file_of, AllLong, Lengths}
 use Rattle.judge.specs.Apart.{slots_from, slots_count, made}
@@ -76,6 +75,16 @@ module _ (file : List ℕ) (n : ℕ) (e : structure_of file ≡ Fits n) where
 
   pub t_found : {t : List ℕ} (k : ℕ) → 1 ≤ k → k ≤ n → t ≡ slot_at file k → length t ≡ 768
   t_found k a b p = ap length p ∙ t_long file n fit.long k a b
+
+  -- it finds each record whole
+  pub q_there : (0 ≤ 10000) × (record_at 0 ≤ length file) × (length (slot_at file 0) ≡ 256)
+  q_there = let f = found 0 (omega arith) in (f.0, f.1, q_found refl)
+
+  pub t_there : (k : ℕ) → 1 ≤ k → k ≤ n → (k ≤ 10000) × (record_at k ≤ length file) × (length (slot_at file k) ≡ 768)
+  t_there k a b = let f = found k (omega arith) in (f.0, f.1, t_found k a b refl)
+
+  pub z_there : (n + 1 ≤ 10000) × (record_at (n + 1) ≤ length file) × (length (slot_at file (n + 1)) ≡ 256)
+  z_there = let f = found (n + 1) (omega arith) in (f.0, f.1, z_found refl)
 
   -- the kept file's records
   module _ (page : ℕ) (transfer cheque : List ℕ) where

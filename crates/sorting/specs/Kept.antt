@@ -11,8 +11,7 @@ use Rattle.payments.specs.Rules.{key_of}
 use Rattle.payments.specs.Faults.{t_fault}
 use Rattle.structure.specs.Slots.{slot_at}
 use Rattle.structure.specs.Walk.{structure_of}
-use Rattle.structure.specs.declared.Shape.{Shape}
-use Rattle.structure.specs.declared.Shape.TheVariants.{Fits, Refused}
+use Rattle.structure.specs.Shape.{Shape, Fits, Refused}
 use Rattle.judge.specs.Sums.{euros}
 use Rattle.judge.specs.Records.{file_of}
 use Rattle.judge.specs.Apart.{slots_from}

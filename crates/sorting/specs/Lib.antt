@@ -1,5 +1,6 @@
 pub mod Kept
 pub mod Sorted
+pub mod Answer
 pub mod Digits
 pub mod Fresh
 pub mod Lists

@@ -10,8 +10,7 @@ use Rattle.fields.specs.declared.Class.TheVariants.{Digit}
 use Rattle.payments.specs.Rules.{in_t}
 use Rattle.structure.specs.Slots.{slot_at}
 use Rattle.structure.specs.Walk.{structure_of}
-use Rattle.structure.specs.declared.Shape.{Shape}
-use Rattle.structure.specs.declared.Shape.TheVariants.{Fits, Refused}
+use Rattle.structure.specs.Shape.{Shape, Fits, Refused}
 use Rattle.judge.specs.First.{first_rule}
 use Rattle.judge.specs.Content.{fault_of, rule_from, rule_end}
 use Rattle.judge.specs.Sums.{euros, euro_sum}

@@ -8,8 +8,7 @@ use Rattle.laws.specs.Scan.{Means, means, first}
 use Rattle.structure.specs.Slots.{slot_at}
 use Rattle.structure.specs.Walk.{letter_of, fault_in, stops, told, structure_of}
 use Rattle.structure.specs.Whole.{more_room, ends_room}
-use Rattle.structure.specs.declared.Shape.{Shape}
-use Rattle.structure.specs.declared.Shape.TheVariants.{Fits, Refused}
+use Rattle.structure.specs.Shape.{Shape, Fits, Refused}
 
 -- record k is whole, and no Z: the walk goes on
 pub record WalksOn (file : List ℕ) (k : ℕ) : Type 0 where

@@ -8,8 +8,7 @@ use Rattle.structure.specs.Slots.{slot_at}
 use Rattle.structure.specs.Walk.{letter_of, fault_in, stops, told}
 use Rattle.structure.specs.Whole.{whole_t, t_no_z, t_right}
 use Rattle.structure.specs.Fits.{WalksOn, stays}
-use Rattle.structure.specs.declared.Shape.{Shape}
-use Rattle.structure.specs.declared.Shape.TheVariants.{Fits, Refused}
+use Rattle.structure.specs.Shape.{Shape, Fits, Refused}
 
 module _ (file : List ℕ) (k f : ℕ) (rec : List ℕ) (s : rec ≡ slot_at file k) (e : f ≡ fault_in k rec) where
   fault_is : f ≡ fault_in k (slot_at file k)

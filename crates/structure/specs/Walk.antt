@@ -7,8 +7,7 @@ use Rattle.laws.specs.Ascii.{ascii}
 use Rattle.laws.specs.Scan.{first}
 use Rattle.fields.specs.Class.{same}
 use Rattle.structure.specs.Slots.{slot_at}
-use Rattle.structure.specs.declared.Shape.{Shape}
-use Rattle.structure.specs.declared.Shape.TheVariants.{Fits, Refused}
+use Rattle.structure.specs.Shape.{Shape, Fits, Refused}
 
 abbrev pub digits_of : List ℕ → List ℕ
 digits_of slot = take 4 (drop 0 slot)

@@ -1,20 +1,46 @@
 // The walk over a file's records.
 #![tactic(auto)]
 
-ghost use Rattle.std.specs.Prelude.{◌≡◌, ◌+◌, ◌-◌, ◌≤◌, ◌<◌, length};
+ghost use Rattle.std.specs.Prelude.{◌≡◌, ◌+◌, ◌-◌, ◌≤◌, ◌<◌, length, take, drop};
 ghost use Rattle.fields.specs.Class.{same};
 ghost use Rattle.records.specs.Places.{record_at};
 ghost use Rattle.structure.specs.Slots.{width_at, slot_at};
 ghost use Rattle.structure.specs.Walk.{allowed, length_for, digits_of, digits_for, fault_in, structure_of};
 ghost use Rattle.structure.specs.Whole.{whole_t};
+ghost use Rattle.structure.specs.Found.{fault_number, found, shape_of};
 
 use records::{Q, T, Z};
 
-// A file that fits, with its number of T records; or the number and the record of a refusal.
-#[derive(Drop)]
-pub enum Shape {
-    Fits(usize),
-    Refused(usize, usize),
+// What breaks at a record, or the whole file where it is too long.
+#[derive(Clone, Copy, PartialEq, Eq)]
+pub enum Fault {
+    TooLong,
+    CutShort,
+    WrongLength,
+    WrongLetter,
+    BehindZ,
+}
+
+impl Fault {
+    // The number of the rule that says so (RULES 7).
+    pub fn number(self) -> usize
+        ensures { result ≡ fault_number self }
+    {
+        match self {
+            Fault::TooLong => 1,
+            Fault::CutShort => 2,
+            Fault::WrongLength => 3,
+            Fault::WrongLetter => 4,
+            Fault::BehindZ => 5,
+        }
+    }
+}
+
+// What breaks, and the record that it breaks at.
+#[derive(Clone, Copy, PartialEq, Eq)]
+pub struct Misfit {
+    pub fault: Fault,
+    pub rec: usize,
 }
 
 pub fn width_at(k: usize) -> usize
@@ -26,19 +52,30 @@ pub fn width_at(k: usize) -> usize
     T::LENGTH
 }
 
+// The bytes from a place on, up to so many.
+pub fn up_to(bytes: &[u8], at: usize, width: usize) -> &[u8]
+    requires { at ≤ length bytes.now }
+    ensures { result.now ≡ take width (drop at bytes.now) }
+{
+    let rest = &bytes[at..];
+    &rest[..rest.len().min(width)]
+}
+
 // The slot of record k.
+#[tactic(auto, unfolding(crate::specs::Slots::slot_at))]
 pub fn slot(file: &[u8], k: usize) -> &[u8]
     requires { (k ≤ 10000) × (record_at k ≤ length file.now) }
     ensures { result.now ≡ slot_at file.now k }
 {
-    let at = records::record_at(k);
-    let left = file.len() - at;
-    let width = width_at(k);
-    if left < width {
-        return &file[at..];
-    }
-    let end = at + width;
-    &file[at..end]
+    up_to(file, records::record_at(k), width_at(k))
+}
+
+// Record k, where its slot has N bytes.
+pub fn whole<const N: usize>(file: &[u8], k: usize) -> &[u8; N]
+    requires { (k ≤ 10000) × (record_at k ≤ length file.now) × (length (slot_at file.now k) ≡ N) }
+    ensures { result.now ≡ slot_at file.now k }
+{
+    slot(file, k).as_array::<N>().unwrap()
 }
 
 // Only Q at record 0, only T at record 1, T or Z later.
@@ -71,28 +108,29 @@ fn digits_right(slot: &[u8], letter: u8) -> bool
     fields::same(&slot[0..4], b"0256")
 }
 
-// What breaks at record k, by its slot; 0 for a whole record.
-pub fn fault_in(k: usize, slot: &[u8]) -> usize
-    ensures { result ≡ fault_in k slot.now }
+// What breaks at record k, by its slot.
+#[tactic(auto, unfolding(crate::specs::Walk::fault_in))]
+pub fn fault_in(k: usize, slot: &[u8]) -> Result<(), Fault>
+    ensures { found result ≡ fault_in k slot.now }
 {
     let left = slot.len();
     if left < 5 {
-        return 2;
+        return Err(Fault::CutShort);
     }
     let letter = slot[4];
     if !is_allowed(k, letter) {
-        return 4;
+        return Err(Fault::WrongLetter);
     }
     if !digits_right(slot, letter) {
-        return 3;
+        return Err(Fault::WrongLength);
     }
     if left < length_for(letter) {
-        return 2;
+        return Err(Fault::CutShort);
     }
     if (letter == Z::LETTER) & (Z::LENGTH < left) {
-        return 5;
+        return Err(Fault::BehindZ);
     }
-    0
+    Ok(())
 }
 
 // A whole T record behind Q: most records are one, and are asked for nothing more.
@@ -105,27 +143,28 @@ fn whole_t(k: usize, slot: &[u8]) -> bool
     fields::same(&slot[0..5], b"0768T")
 }
 
-// The walk over the whole file.
-pub fn walk(file: &[u8]) -> Shape
-    ensures { result ≡ structure_of file.now }
+// The walk over the whole file: its number of T records. Records 0 to 10,000 are all that 7,679,744 bytes can hold.
+#[tactic(auto, unfolding(crate::specs::Walk::structure_of))]
+pub fn walk(file: &[u8]) -> Result<usize, Misfit>
+    ensures { shape_of result ≡ structure_of file.now }
 {
     if 7679744 < file.len() {
-        return Shape::Refused(1, 0);
+        return Err(Misfit {
+            fault: Fault::TooLong,
+            rec: 0,
+        });
     }
-    let mut k = 0;
-    loop {
+    for k in 0..10001 {
         let rec = slot(file, k);
         if whole_t(k, rec) {
-            k += 1;
             continue;
         }
-        let fault = fault_in(k, rec);
-        if fault != 0 {
-            return Shape::Refused(fault, k);
+        if let Err(fault) = fault_in(k, rec) {
+            return Err(Misfit { fault, rec: k });
         }
         if rec[4] == Z::LETTER {
-            return Shape::Fits(k - 1);
+            return Ok(k - 1);
         }
-        k += 1;
     }
+    unreachable!()
 }

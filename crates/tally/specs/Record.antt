@@ -1,14 +1,13 @@
 -- A record by itself: its first broken rule, by its bytes, with record 1's bytes from T3 to T4b handed in as the key.
-use Rattle.std.specs.Prelude.{ℕ, ◌+◌, ◌≤◌, ◌≡◌, refl, Bool, true, false, cond, List, eqb, length}
-use Rattle.std.proofs.Common.{sym, ap, ◌∙◌, arith, eqb-true, lit≤}
-use Rattle.std.proofs.lemmas.Bool.{eqb-false}
-use Rattle.laws.specs.Choice.{on_eq, either}
+use Rattle.std.proofs.Common.{not, unwrap_or, Some, None, ℕ, ◌+◌, ◌≤◌, ◌≡◌, refl, Bool, true, false, cond, List, eqb, length, sym, ap, ◌∙◌, arith}
+use Rattle.laws.specs.Choice.{on_eq}
 use Rattle.laws.specs.Scan.{or_else, run_turn, run_end}
 use Rattle.records.specs.Places.{record_at}
-use Rattle.structure.specs.Slots.{width_at, later_width}
-use Rattle.judge.specs.First.{faulty, told_at, none}
+use Rattle.structure.specs.Slots.{width_at}
+use Rattle.judge.specs.First.{first_rule, faulty, told_at, none}
+use Rattle.judge.specs.Found.{broken}
 use Rattle.judge.specs.Content.{rule_from, rule_end}
-use Rattle.judge.specs.Run.{length_at, long_q, long_t, slot_fault, slot_in, run_fault, first_in, by_itself}
+use Rattle.judge.specs.Run.{slot_fault, slot_in, run_fault, first_in, by_itself}
 use Rattle.judge.specs.declared.Breach.{Breach}
 
 -- the first broken rule of record k, or none
@@ -24,20 +23,6 @@ or_next b next = cond (eqb b.number 0) next b
 pub q_width : (k : ℕ) → k ≡ 0 → width_at k ≡ 256
 q_width k z = sym (on_eq {x = 256} 768 z refl)
 
--- Q and each T record fill their slot
-pub long_is : (k : ℕ) → width_at k ≡ length_at k k
-long_is k = go (eqb k 0) refl
-  where
-    go : (b : Bool) → eqb k 0 ≡ b → width_at k ≡ length_at k k
-    go true e = let z = eqb-true k 0 e in q_width k z ∙ sym (long_q k k z)
-    go false e =
-        let n = eqb-false k 0 e in
-        later_width k (omega arith) ∙ sym (long_t k k n (omega arith))
-
--- and Z has room in its own
-pub width_low : (k : ℕ) → 256 ≤ width_at k
-width_low k = either (λ (n : ℕ). 256 ≤ n) (eqb k 0) 256 768 (lit≤ tt) (lit≤ tt)
-
 -- the first broken rule of a run of one record
 pub of_run : (page : ℕ) (transfer cheque key : List ℕ) (payments euros : ℕ) (slot : List ℕ) (k skip : ℕ) → skip ≡ record_at k
     → length slot ≤ width_at k
@@ -45,6 +30,21 @@ pub of_run : (page : ℕ) (transfer cheque key : List ℕ) (payments euros : ℕ
     ≡ breach_in page transfer cheque key payments euros slot k
 unfolding breach_in
 of_run page transfer cheque key payments euros slot k skip e short =
-    run_turn (or_else (faulty (run_fault page transfer cheque key payments euros slot skip) (rule_from payments) (rule_end payments)) (told_at (run_fault page transfer cheque key payments euros slot skip) (rule_from payments) (rule_end payments))) none k (k + 1) (omega arith)
-    ∙ ap (or_else (faulty (run_fault page transfer cheque key payments euros slot skip) (rule_from payments) (rule_end payments)) (told_at (run_fault page transfer cheque key payments euros slot skip) (rule_from payments) (rule_end payments)) k) (run_end _ none (k + 1) (k + 1) (omega arith))
-    ∙ ap (λ (s : List ℕ). or_else (faulty (λ (j rule : ℕ). slot_fault page transfer cheque key payments euros s j rule) (rule_from payments) (rule_end payments)) (told_at (λ (j rule : ℕ). slot_fault page transfer cheque key payments euros s j rule) (rule_from payments) (rule_end payments)) k none) (ap (λ (a : ℕ). slot_in slot a k) e ∙ by_itself slot k short)
+    let G : (ℕ → ℕ → ℕ) → ℕ → Breach → Breach = λ F. or_else (faulty F (rule_from payments) (rule_end payments)) (told_at F (rule_from payments) (rule_end payments)) in
+    let R : ℕ → ℕ → ℕ = run_fault page transfer cheque key payments euros slot skip in
+    run_turn (G R) none k (k + 1) (omega arith) ∙ ap (G R k) (run_end _ none (k + 1) (k + 1) (omega arith))
+    ∙ ap (λ (s : List ℕ). G (slot_fault page transfer cheque key payments euros s) k none) (ap (λ (a : ℕ). slot_in slot a k) e ∙ by_itself slot k short)
+
+-- it tells all that there is to tell: where none is broken, zeros
+pub kept_in : (page : ℕ) (transfer cheque key : List ℕ) (payments euros : ℕ) (slot : List ℕ) (k : ℕ)
+    → unwrap_or (broken (breach_in page transfer cheque key payments euros slot k)) none ≡ breach_in page transfer cheque key payments euros slot k
+unfolding breach_in
+kept_in page transfer cheque key payments euros slot k =
+    go (eqb (first_rule (slot_fault page transfer cheque key payments euros slot) (rule_from payments) (rule_end payments) k) 0) refl
+  where
+    told : Breach
+    told = told_at (slot_fault page transfer cheque key payments euros slot) (rule_from payments) (rule_end payments) k
+
+    go : (b : Bool) → eqb told.number 0 ≡ b → unwrap_or (broken (cond (not b) told none)) none ≡ cond (not b) told none
+    go true e = refl
+    go false e = ap (λ (t : Bool). unwrap_or (cond t None (Some told)) none) e

@@ -1,11 +1,5 @@
 -- The first broken rule, as it is found record by record.
-use Prim.Native.Nat.{ℕ, zero, suc, ◌+◌, ◌-◌, ◌<◌}
-use Rattle.std.specs.Prelude.{◌≡◌, Bool, not}
-use Rattle.std.proofs.Math.Path.{refl, ap}
-use Rattle.std.proofs.Common.{sym, ap₂, ◌∙◌}
-use Rattle.std.proofs.Math.Bool.{true, false, cond}
-use native.Mathlib.Omega.{arith}
-use Rattle.std.proofs.Math.Dec.{eqb}
+use Rattle.std.proofs.Common.{ℕ, zero, suc, ◌+◌, ◌-◌, ◌<◌, arith, ◌≡◌, Bool, not, refl, ap, sym, ap₂, ◌∙◌, true, false, cond, eqb}
 use Rattle.laws.specs.Choice.{off}
 use Rattle.laws.specs.Scan.{from, run, or_else}
 use Rattle.judge.specs.declared.Breach.{Breach}

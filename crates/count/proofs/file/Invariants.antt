@@ -1,10 +1,7 @@
-use Prim.Native.Nat.{◌-◌}
+use Rattle.std.proofs.Common.{◌+◌, ◌*◌}
 use Rattle.count.specs.Counting.{Counted}
 use Rattle.count.proofs.file.Given as goal
 
--- The count so far is that of the records before `at`.
-abbrev pub invariant-loop-at : goal.invariant-loop-at
-invariant-loop-at l = Counted l.file l.n l.at
-
-abbrev pub decreases-loop-at : goal.decreases-loop-at
-decreases-loop-at l = l.end - l.at
+-- The count so far is that of the records before this one.
+abbrev pub invariant-loop-t : goal.invariant-loop-t
+invariant-loop-t l = Counted l.file l.n (256 + 768 * l.t-index)

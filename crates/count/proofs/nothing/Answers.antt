@@ -1,38 +1,35 @@
-use borrow.Author.Tests.{eqb-true, eqb-false, eq-eqb}
-use native.Mathlib.Omega.{arith}
-use mathlib.Core.Path.{sym, ◌∙◌}
-use Rattle.forwarding.specs.Between.{between_long}
-use Rattle.forwarding.specs.Sized.{fits, rec_long}
+use Rattle.std.proofs.Common.{sym, ap, ◌∙◌, rules, eqb-true, eq-eqb}
+use Rattle.std.proofs.lemmas.Bool.{eqb-false}
+use Rattle.forwarding.specs.Text.{q_texts, t_texts}
+use Rattle.forwarding.specs.Fields.{field_changes}
+use Rattle.forwarding.specs.Turns.{turn_is, turn_before, turn_last, turn_next}
 use Rattle.count.specs.Counting.{count_first, count_next, count_some, next_some, count_all}
 use Rattle.count.proofs.nothing.Goals as goal
 
-pub q_record-requires : goal.q_record-requires
-q_record-requires c = between_long 0 256 c.args.file.now (omega (arith, c.requires.long))
-
 pub returns-then-q_record-ne0 : goal.returns-then-q_record-ne0
 returns-then-q_record-ne0 c =
-    let sized = c.requires in
-    count_some sized (count_first sized c.q_record.ensures) c.if-q_record-ne0.true
+    count_some c.requires (count_first c.requires (c.q_record.ensures ∙ ap (field_changes q_texts) (search rules))) c.if-q_record-ne0.true
 
-pub loop-from-init : goal.loop-from-init
-loop-from-init c = count_first c.requires (sym c.if-q_record-ne0.false ∙ c.q_record.ensures)
+pub loop-t-init : goal.loop-t-init
+loop-t-init c = count_first c.requires (sym c.if-q_record-ne0.false ∙ c.q_record.ensures ∙ ap (field_changes q_texts) (search rules))
 
 pub returns-then-not-t_none : goal.returns-then-not-t_none
 returns-then-not-t_none c =
-    let sized = c.requires in
-    next_some sized c.loop-from.invariant c.loop-from-test.true (eqb-false _ 0 (sym c.t_none.ensures ∙ c.if-not-t_none.true))
+    let ts = c.t_records-all.ensures in
+    let more = c.loop-t-test.true in
+    next_some c.requires c.loop-t.invariant (turn_before c.requires ts more)
+    (λ none. eqb-false _ 0 (sym c.t_none.ensures ∙ c.if-not-t_none.true) (ap (field_changes t_texts) (turn_is c.requires ts more) ∙ none))
 
-pub loop-from-preserved : goal.loop-from-preserved
-loop-from-preserved c =
-    let sized = c.requires in
+pub loop-t-preserved : goal.loop-t-preserved
+loop-t-preserved c =
+    let ts = c.t_records-all.ensures in
+    let more = c.loop-t-test.true in
     let none = eqb-true _ 0 (sym c.t_none.ensures ∙ c.if-not-t_none.false) in
-    count_next sized c.loop-from.invariant c.loop-from-test.true (sym none)
-
-pub slice_bounds-t_none-end : goal.slice_bounds-t_none-end
-slice_bounds-t_none-end c = fits c.requires c.loop-from.invariant.begins c.loop-from-test.true
-
-pub t_none-requires : goal.t_none-requires
-t_none-requires c = rec_long c.requires c.loop-from.invariant.begins c.loop-from-test.true
+    rw (turn_next c.loop-t.t-index)
+    (count_next c.requires c.loop-t.invariant (turn_before c.requires ts more)
+    (sym none ∙ ap (field_changes t_texts) (turn_is c.requires ts more)))
 
 pub returns : goal.returns
-returns c = λ page. sym (eq-eqb _ 0 (sym (count_all c.requires c.loop-from.invariant c.loop-from-test.false page)))
+returns c =
+    let ts = c.t_records-all.ensures in
+    λ page. sym (eq-eqb _ 0 (sym (count_all c.requires c.loop-t.invariant (turn_last c.requires ts c.loop-t-test.false) page)))

@@ -1,16 +1,13 @@
-use native.Mathlib.Omega.{arith}
-use mathlib.Core.Path.{ap, ◌∙◌}
-use lib.ListN.{length}
-use Rattle.payments.specs.Rules.{key_of}
-use Rattle.structure.specs.Slots.{t_long}
-use Rattle.judge.specs.Run.{file_lies, content_in_file}
+use Rattle.std.proofs.Common.{arith}
+use Rattle.structure.specs.Slots.{t_long, place_in}
+use Rattle.judge.specs.Run.{file_lies}
 use Rattle.judge.proofs.content.Goals as goal
 
-pub key-key-requires : goal.key-key-requires
-key-key-requires c = ap length c.slot.ensures ∙ t_long _ _ c.requires.0 1 (omega arith) c.requires.1.0
+pub whole-requires : goal.whole-requires
+whole-requires c =
+    let a = c.args in
+    let long = c.requires.0 in
+    (omega arith, (omega arith, place_in a.file.now a.n long 1 (omega arith), t_long a.file.now a.n long 1 (omega arith) c.requires.1.0))
 
 pub run-requires : goal.run-requires
-run-requires c = (file_lies c.args.file.now c.args.n c.requires.0 c.requires.1.1, c.key-key.ensures.long)
-
-pub returns : goal.returns
-returns c = c.run.ensures ∙ content_in_file c.args.page c.args.file.now c.args.n c.args.euros c.args.transfer.now c.args.cheque.now _ (c.key-key.ensures.bytes ∙ ap key_of c.slot.ensures)
+run-requires c = file_lies c.args.file.now c.args.n c.requires.0 c.requires.1.1

@@ -1,5 +1,4 @@
-use Prim.Native.Nat.{◌-◌, ◌≤◌, ◌<◌}
-use mathlib.Core.Path.{◌≡◌}
+use Rattle.std.specs.Prelude.{◌≡◌, None}
 use Rattle.laws.specs.Scan.{first}
 use Rattle.judge.specs.First.{breaks, first_rule}
 use Rattle.judge.specs.Content.{rule_from, rule_end}
@@ -10,18 +9,12 @@ use Rattle.judge.proofs.run.Given as goal
 -- tells is what the whole search tells.
 abbrev pub invariant-loop-rule : goal.invariant-loop-rule
 invariant-loop-rule l =
-    (l.number ≡ 0) × (l.rec ≡ 0) × (l.at ≡ 0) × (0 < l.rule)
-    × (first (breaks (run_fault l.page l.transfer l.cheque l.key l.payments l.euros l.bytes l.skip) l.k) (λ r. r) 0 l.rule l.end
+    (l.found ≡ None)
+    × (first (breaks (run_fault l.page l.transfer l.cheque l.key l.payments l.euros l.bytes l.skip) l.k) (λ r. r) 0 l.rule l.rule-end
     ≡ first_rule (run_fault l.page l.transfer l.cheque l.key l.payments l.euros l.bytes l.skip) (rule_from l.payments) (rule_end l.payments) l.k)
-
-abbrev pub decreases-loop-rule : goal.decreases-loop-rule
-decreases-loop-rule l = l.end - l.rule
 
 abbrev pub invariant-records : goal.invariant-records
 invariant-records l =
-    (l.number ≡ 0) × (l.rec ≡ 0) × (l.at ≡ 0) × (l.from ≤ l.k)
+    (l.found ≡ None)
     × (first_in (run_fault l.page l.transfer l.cheque l.key l.payments l.euros l.bytes l.skip) (rule_from l.payments) (rule_end l.payments) l.k l.to
     ≡ first_in (run_fault l.page l.transfer l.cheque l.key l.payments l.euros l.bytes l.skip) (rule_from l.payments) (rule_end l.payments) l.from l.to)
-
-abbrev pub decreases-records : goal.decreases-records
-decreases-records l = l.to - l.k

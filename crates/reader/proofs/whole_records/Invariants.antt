@@ -1,16 +1,12 @@
-use Prim.Native.Nat.{◌+◌, ◌-◌, ◌≤◌}
-use mathlib.Core.Path.{◌≡◌}
-use mathlib.Core.List.{[]}
-use lib.ListN.{length, drop}
+use Rattle.std.proofs.Common.{◌≡◌, ◌-◌, ◌≤◌, [], length, drop}
 use Rattle.tally.specs.Settle.{Steady}
 use Rattle.reader.specs.State.{mid, eat}
-use Rattle.reader.specs.Eats.{ready_of}
 use Rattle.reader.proofs.whole_records.Given as goal
 
 -- The records up to `at` were settled: to eat the rest of the cut is to eat all of it.
 abbrev pub invariant-loop-width : goal.invariant-loop-width
 invariant-loop-width l =
-    (l.at + l.width ≤ length l.cut) × Steady l.tally × (l.width ≡ ready_of l.tally.stop l.tally.next (length l.cut - l.at))
+    (l.at ≤ length l.cut) × Steady l.tally
     × (eat l.page l.transfer l.cheque (mid l.initial.tally []) l.cut ≡ eat l.page l.transfer l.cheque (mid l.tally []) (drop l.at l.cut))
 
 abbrev pub decreases-loop-width : goal.decreases-loop-width

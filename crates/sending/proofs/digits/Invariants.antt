@@ -9,5 +9,3 @@ use Rattle.sending.proofs.digits.Given as goal
 abbrev pub invariant-loop-i : goal.invariant-loop-i
 invariant-loop-i l = (length l.out ≡ length l.initial.out) × (l.i ≤ length l.out) × (digits l.i l.rest ++ drop l.i l.out ≡ digits (length l.initial.out) l.n)
 
-abbrev pub decreases-loop-i : goal.decreases-loop-i
-decreases-loop-i l = l.i

@@ -1,65 +1,45 @@
-use borrow.Author.Rules.{rules}
-use native.Mathlib.Omega.{arith}
-use Prim.Native.Nat.{ℕ, ◌+◌}
-use mathlib.Core.Path.{sym, ap, ap₂, subst, ◌∙◌}
-use mathlib.Core.List.{List}
-use Rattle.payments.specs.Rules.{key_of}
-use Rattle.sorting.specs.Kept.{first_of}
-use Rattle.sorting.proofs.Sound.{first_below}
-use Rattle.sorting.specs.Frame.{fit, found, t_found}
-use Rattle.sending.specs.Turns.{RoomFor, paid_is}
-use Rattle.sending.specs.Sending.{send_first, send_room, send_next, out_same, notes_same, list_same, send_last}
+use Rattle.std.proofs.Common.{rules, ◌≡◌, ◌+◌, ◌*◌, ◌<◌, length, ℕ, ◌-◌, ◌≤◌, ◌/◌, ◌%◌, Bool, true, false, nat_eq, nat_lt, List, [], ◌∷◌, ◌++◌, slice_index_or, slice_set, bit_and, bit_or, w8, w32, w64, Bor, MutBor}
+use Rattle.laws.specs.Found.{nonzero, or_zero}
+use Rattle.sorting.specs.Kept.{digits, fresh_z}
+use Rattle.structure.specs.Walk.{structure_of}
+use Rattle.structure.specs.declared.Shape.TheVariants.{Fits}
+use Rattle.sending.specs.Turns.{Paid, RoomFor}
+use Rattle.sending.specs.Sending.{RoomsIn, Sent}
+use Rattle.sending.specs.Whole.{CanSend, FileSent}
 use Rattle.sending.proofs.t_records.Goals as goal
 
-pub key-key-requires : goal.key-key-requires
-key-key-requires c =
-    let a = c.args in
-    t_found a.file.now a.n c.requires.0 1 (omega arith) (fit a.file.now a.n c.requires.0).some c.slot.ensures
-
-pub loop-k-init : goal.loop-k-init
-loop-k-init c =
-    let a = c.args in
-    (search rules, send_first a.page a.file.now a.transfer.now a.cheque.now a.n c.requires.0 a.have a.out.now a.notes.now a.list.now c.requires.1)
-
-pub slot-t-requires : goal.slot-t-requires
-slot-t-requires c =
-    found c.args.file.now c.args.n c.requires.0 (c.loop-k.k + 1) (omega (arith, c.loop-k-test.true))
-
-pub payment-next-requires : goal.payment-next-requires
-payment-next-requires c =
-    let a = c.args in
-    let l = c.loop-k in
-    let room = send_room a.page a.file.now a.transfer.now a.cheque.now a.n c.requires.0 a.have a.out.now a.notes.now a.list.now c.requires.1 l.k c.loop-k-test.true l.invariant.1 c.first_rule-rule.result (let a = c.args in
-    c.first_rule-rule.ensures
-    ∙ ap₂ (first_of a.page a.transfer.now a.cheque.now) (c.key-key.ensures.bytes ∙ ap key_of c.slot.ensures) c.slot-t.ensures) (let a = c.args in
-    omega (arith, c.first_rule-rule.ensures, first_below a.page a.transfer.now a.cheque.now c.key-key.result.now c.slot-t.result.now)) in
-    ((t_found c.args.file.now c.args.n c.requires.0 (c.loop-k.k + 1) (omega arith) (omega (arith, c.loop-k-test.true)) c.slot-t.ensures), subst (λ (t : List ℕ). RoomFor t (l.k + 1) c.first_rule-rule.result l.next l.out l.notes l.list) (sym c.slot-t.ensures) room)
-
-pub loop-k-preserved : goal.loop-k-preserved
-loop-k-preserved c =
-    let a = c.args in
-    let l = c.loop-k in
-    let paid = paid_is c.slot-t.ensures c.payment-next.ensures in (
-      search rules,
-      send_next a.page a.file.now a.transfer.now a.cheque.now a.n c.requires.0 a.have a.out.now a.notes.now a.list.now c.requires.1 l.k c.loop-k-test.true l.invariant.1 c.first_rule-rule.result (let a = c.args in
-          c.first_rule-rule.ensures
-          ∙ ap₂ (first_of a.page a.transfer.now a.cheque.now) (c.key-key.ensures.bytes ∙ ap key_of c.slot.ensures) c.slot-t.ensures) paid,
-    )
-
+-- src/lib.rt:92:29
 pub slot-requires : goal.slot-requires
-slot-requires c = found c.args.file.now c.args.n c.requires.0 1 (omega arith)
+slot-requires c = ?
 
-pub first_rule-rule-requires : goal.first_rule-rule-requires
-first_rule-rule-requires c = ((t_found c.args.file.now c.args.n c.requires.0 (c.loop-k.k + 1) (omega arith) (omega (arith, c.loop-k-test.true)) c.slot-t.ensures), c.key-key.ensures.long)
+-- src/lib.rt:92:9
+pub key-key-requires : goal.key-key-requires
+key-key-requires c = ?
 
-pub shape_of-out : goal.shape_of-out
-shape_of-out c = out_same c.args.page c.args.file.now c.args.transfer.now c.args.cheque.now c.args.n c.requires.0 c.args.have c.args.out.now c.args.notes.now c.args.list.now c.requires.1 c.loop-k.k c.loop-k.invariant.0 c.loop-k.invariant.1
+-- src/lib.rt:98:17
+pub overflow_add-k-end : goal.overflow_add-k-end
+overflow_add-k-end c = ?
 
-pub shape_of-notes : goal.shape_of-notes
-shape_of-notes c = notes_same c.args.page c.args.file.now c.args.transfer.now c.args.cheque.now c.args.n c.requires.0 c.args.have c.args.out.now c.args.notes.now c.args.list.now c.requires.1 c.loop-k.k c.loop-k.invariant.0 c.loop-k.invariant.1
+-- src/lib.rt:98:5
+pub loop-k-init : goal.loop-k-init
+loop-k-init c = ?
 
-pub shape_of-list : goal.shape_of-list
-shape_of-list c = list_same c.args.page c.args.file.now c.args.transfer.now c.args.cheque.now c.args.n c.requires.0 c.args.have c.args.out.now c.args.notes.now c.args.list.now c.requires.1 c.loop-k.k c.loop-k.invariant.0 c.loop-k.invariant.1
+-- src/lib.rt:99:17
+pub slot-requires-in-loop-k : goal.slot-requires-in-loop-k
+slot-requires-in-loop-k c = ?
 
+-- src/lib.rt:99:13
+pub unwrap-t-requires : goal.unwrap-t-requires
+unwrap-t-requires c = ?
+
+-- src/lib.rt:101:9
+pub payment-next-requires : goal.payment-next-requires
+payment-next-requires c = ?
+
+-- src/lib.rt:98:5
+pub loop-k-preserved : goal.loop-k-preserved
+loop-k-preserved c = ?
+
+-- src/lib.rt:78:1
 pub returns : goal.returns
-returns c = send_last c.args.page c.args.file.now c.args.transfer.now c.args.cheque.now c.args.n c.requires.0 c.args.have c.args.out.now c.args.notes.now c.args.list.now c.requires.1 c.loop-k.k c.loop-k.invariant.0 c.loop-k.invariant.1 c.loop-k-test.false
+returns c = ?

@@ -1,31 +1,30 @@
-use native.Mathlib.Omega.{arith}
+use Rattle.std.proofs.lemmas.Result.{err_from_is_err_and}
 use Rattle.sorting.specs.Frame.{fit}
 use Rattle.sorting.proofs.Answers.{kept_le, told_33, told_z, told_43, told_going}
 use Rattle.sorting.proofs.behind_q.Goals as goal
 
-pub no_amount-spoiled-requires : goal.no_amount-spoiled-requires
-no_amount-spoiled-requires c =
+pub amounts-requires : goal.amounts-requires
+amounts-requires c =
     let f = fit c.args.file.now c.args.n c.requires.0 in
     (f.long, f.most)
 
-pub returns-then-spoiled-ne0 : goal.returns-then-spoiled-ne0
-returns-then-spoiled-ne0 c =
+pub returns-in_err-amounts : goal.returns-in_err-amounts
+returns-in_err-amounts c =
     let a = c.args in
-    told_33 a.page a.file.now a.transfer.now a.cheque.now a.n c.requires.0 c.no_amount-spoiled.ensures c.if-spoiled-ne0.true c.refusal.ensures
+    let p = err_from_is_err_and c.from_residual.result c.from_residual.ensures.1 in
+    rw (p.1, p.2) (told_33 a.page a.file.now a.transfer.now a.cheque.now a.n c.requires.0 c.in_err-amounts.ensures)
 
-pub overflow_add-n : goal.overflow_add-n
-overflow_add-n c =
-    omega (arith, (fit c.args.file.now c.args.n c.requires.0).most)
-
-pub returns-then-broken-ne0 : goal.returns-then-broken-ne0
-returns-then-broken-ne0 c =
+pub returns-in_err-z_rules : goal.returns-in_err-z_rules
+returns-in_err-z_rules c =
     let a = c.args in
-    told_z a.page a.file.now a.transfer.now a.cheque.now a.n c.requires.0 c.no_amount-spoiled.ensures c.if-spoiled-ne0.false c.z_rule-broken.ensures c.if-broken-ne0.true c.refusal-then-broken-ne0.ensures
+    let r = c.from_residual-in_err-z_rules in
+    let p = err_from_is_err_and r.result r.ensures.1 in
+    rw (p.1, p.2) (told_z a.page a.file.now a.transfer.now a.cheque.now a.n c.requires.0 c.in_ok-amounts.ensures c.in_err-z_rules.ensures)
 
-pub returns-then-payments-eq0 : goal.returns-then-payments-eq0
-returns-then-payments-eq0 c =
+pub returns-then-kept-eq0 : goal.returns-then-kept-eq0
+returns-then-kept-eq0 c =
     let a = c.args in
-    told_43 a.page a.file.now a.transfer.now a.cheque.now a.n c.requires.0 c.no_amount-spoiled.ensures c.if-spoiled-ne0.false c.z_rule-broken.ensures c.if-broken-ne0.false c.count_kept-kept.ensures c.if-payments-eq0.true c.refusal-then-payments-eq0.ensures
+    told_43 a.page a.file.now a.transfer.now a.cheque.now a.n c.requires.0 c.in_ok-amounts.ensures c.in_ok-z_rules.ensures c.count_kept-kept.ensures c.if-kept-eq0.true
 
 pub going_on-requires : goal.going_on-requires
 going_on-requires c =
@@ -35,4 +34,5 @@ going_on-requires c =
 pub returns : goal.returns
 returns c =
     let a = c.args in
-    told_going a.page a.file.now a.transfer.now a.cheque.now a.n c.requires.0 c.no_amount-spoiled.ensures c.if-spoiled-ne0.false c.z_rule-broken.ensures c.if-broken-ne0.false c.count_kept-kept.ensures c.if-payments-eq0.false c.requires.1 c.going_on.ensures
+    told_going a.page a.file.now a.transfer.now a.cheque.now a.n c.requires.0 c.in_ok-amounts.ensures c.in_ok-z_rules.ensures c.count_kept-kept.ensures
+    c.if-kept-eq0.false c.requires.1 c.going_on.ensures

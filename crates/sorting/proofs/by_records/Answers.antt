@@ -1,14 +1,16 @@
+use Rattle.std.proofs.Common.{refl}
+use Rattle.judge.specs.Found.{was_broken, was_whole}
 use Rattle.sorting.specs.Frame.{fit}
 use Rattle.sorting.proofs.Answers.{told_later, told_q, told_whole}
 use Rattle.sorting.proofs.by_records.Goals as goal
 
-pub sum-sums-requires : goal.sum-sums-requires
-sum-sums-requires c =
+pub sum-euros-requires : goal.sum-euros-requires
+sum-euros-requires c =
     let f = fit c.args.file.now c.args.n c.requires in
     (f.long, f.most)
 
-pub content-broken-requires : goal.content-broken-requires
-content-broken-requires c =
+pub content-requires : goal.content-requires
+content-requires c =
     let f = fit c.args.file.now c.args.n c.requires in
     (f.long, (f.some, f.most))
 
@@ -17,17 +19,19 @@ file-requires c =
     let f = fit c.args.file.now c.args.n c.requires in
     record { payments = c.args.n; long = f.long; most = f.most }
 
-pub returns-then-number-eq0 : goal.returns-then-number-eq0
-returns-then-number-eq0 c =
+pub returns-in-Ok : goal.returns-in-Ok
+returns-in-Ok c =
     let a = c.args in
-    told_whole a.page a.file.now a.transfer.now a.cheque.now a.n c.requires c.sum-sums.ensures.0 c.content-broken.ensures c.if-number-eq0.true (c.file.ensures a.page) c.whole.ensures
+    told_whole a.page a.file.now a.transfer.now a.cheque.now a.n c.requires c.sum-euros.ensures.0 refl (was_whole _ c.in-Ok.ensures) (c.file.ensures a.page) c.whole.ensures
 
-pub returns-then-number-lt20 : goal.returns-then-number-lt20
-returns-then-number-lt20 c =
+pub returns-in-Err : goal.returns-in-Err
+returns-in-Err c =
     let a = c.args in
-    told_q a.page a.file.now a.transfer.now a.cheque.now a.n c.requires c.sum-sums.ensures.0 c.content-broken.ensures c.if-number-eq0.false c.if-number-lt20.true c.refusal.ensures
+    let b = was_broken c.in-Err.ensures in
+    told_q a.page a.file.now a.transfer.now a.cheque.now a.n c.requires c.sum-euros.ensures.0 b.0 b.1 c.if-broken-lt20.true
 
-pub returns : goal.returns
-returns c =
+pub returns-in-Err-2 : goal.returns-in-Err-2
+returns-in-Err-2 c =
     let a = c.args in
-    told_later a.page a.file.now a.transfer.now a.cheque.now a.n c.requires c.sum-sums.ensures.0 c.content-broken.ensures c.if-number-lt20.false c.behind_q.ensures
+    let b = was_broken c.in-Err.ensures in
+    told_later a.page a.file.now a.transfer.now a.cheque.now a.n c.requires c.sum-euros.ensures.0 b.0 c.if-broken-lt20.false c.behind_q.ensures

@@ -1,13 +1,17 @@
-use native.Mathlib.Omega.{arith}
+use Rattle.std.proofs.Common.{◌∙◌, arith}
 use Rattle.judge.specs.Run.{one_lies}
-use Rattle.sorting.proofs.Outcome.{alone_told}
+use Rattle.sorting.proofs.Outcome.{alone_some, alone_none}
 use Rattle.sorting.proofs.first_rule.Goals as goal
 
-pub run-found-requires : goal.run-found-requires
-run-found-requires c =
-    (one_lies c.args.t.now 1 (omega (arith, c.requires.0)) 1 (omega arith) c.requires.0, c.requires.1)
+pub run-requires : goal.run-requires
+run-requires c = one_lies c.args.t.now 1 (omega arith) 1 (omega arith) c.told-t
+
+pub returns-in_err-found : goal.returns-in_err-found
+returns-in_err-found c =
+    let a = c.args in
+    c.from_residual.ensures ∙ alone_none a.page a.transfer.now a.cheque.now a.key.now a.t.now c.told-t c.in_err-found.ensures
 
 pub returns : goal.returns
 returns c =
     let a = c.args in
-    alone_told a.page a.transfer.now a.cheque.now a.key.now a.t.now c.requires.0 c.run-found.ensures
+    alone_some a.page a.transfer.now a.cheque.now a.key.now a.t.now c.told-t c.in_ok-found.ensures

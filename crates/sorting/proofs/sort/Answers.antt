@@ -1,24 +1,25 @@
-use mathlib.Core.Path.{sym, ◌∙◌}
-use Rattle.structure.specs.declared.Shape.TheVariants.{Fits, Refused}
+use Rattle.std.proofs.Common.{refl, sym, ap, not}
+use Rattle.std.proofs.lemmas.Result.{err_from_is_err_and}
+use Rattle.structure.specs.Shape.{Fits, Refused}
 use Rattle.sorting.proofs.Answers.{told_no_page, told_shape}
-use mathlib.Core.Bool.{not}
-use mathlib.Core.Path.{ap}
+use Rattle.sorting.proofs.Goes.{answer_real}
 use Rattle.sorting.proofs.sort.Goals as goal
 
-pub returns-then-not-exists : goal.returns-then-not-exists
-returns-then-not-exists c =
+pub returns-then-not-is_page-clause-answer : goal.returns-then-not-is_page-clause-answer
+returns-then-not-is_page-clause-answer c =
     let a = c.args in
-    told_no_page a.page a.file.now a.transfer.now a.cheque.now c.is_page-exists.ensures (ap not c.if-not-exists.true) c.refusal.ensures
+    told_no_page a.page a.file.now a.transfer.now a.cheque.now c.is_page.ensures (ap not c.if-not-is_page.true) refl
 
-pub returns-in-Refused : goal.returns-in-Refused
-returns-in-Refused c =
+pub returns-in_err-n-clause-answer : goal.returns-in_err-n-clause-answer
+returns-in_err-n-clause-answer c =
     let a = c.args in
-    told_shape a.page a.file.now a.transfer.now a.cheque.now c.is_page-exists.ensures (Refused _ _) (ap not c.if-not-exists.false) (sym c.walk.ensures ∙ c.in-Refused.is) c.refusal-in-Refused.ensures
+    let p = err_from_is_err_and c.from_residual.result c.from_residual.ensures.1 in
+    rw (p.1, p.2) (told_shape a.page a.file.now a.transfer.now a.cheque.now c.is_page.ensures (Refused _ _) (ap not c.if-not-is_page.false) (sym c.in_err-n.ensures) refl)
 
-pub returns-in-Fits : goal.returns-in-Fits
-returns-in-Fits c =
+pub returns-clause-answer : goal.returns-clause-answer
+returns-clause-answer c =
     let a = c.args in
-    told_shape a.page a.file.now a.transfer.now a.cheque.now c.is_page-exists.ensures (Fits _) (ap not c.if-not-exists.false) (sym c.walk.ensures ∙ c.in-Fits.is) c.by_records.ensures
+    told_shape a.page a.file.now a.transfer.now a.cheque.now c.is_page.ensures (Fits _) (ap not c.if-not-is_page.false) (sym c.in_ok-n.ensures) c.by_records.ensures
 
-pub by_records-requires : goal.by_records-requires
-by_records-requires c = sym c.walk.ensures ∙ c.in-Fits.is
+pub returns-clause-real : goal.returns-clause-real
+returns-clause-real c = answer_real c.args.page c.args.file.now c.args.transfer.now c.args.cheque.now c.by_records.result (returns-clause-answer c)

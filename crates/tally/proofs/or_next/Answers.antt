@@ -1,15 +1,12 @@
-use borrow.Author.Rules.{rules}
-use native.Mathlib.Omega.{arith}
-use mathlib.Core.Path.{refl, ◌∙◌}
-use Rattle.laws.specs.Choice.{on_eq, off_eq}
-use Rattle.tally.specs.Record.{long_is}
+use Rattle.std.specs.Prelude.{Option, unwrap_or}
+use Rattle.std.proofs.Common.{ap, ◌∙◌}
+use Rattle.laws.specs.Choice.{on_eq}
+use Rattle.judge.specs.First.{none}
+use Rattle.judge.specs.declared.Breach.{Breach}
+use Rattle.tally.specs.Record.{kept_in}
 use Rattle.tally.proofs.or_next.Goals as goal
 
-pub returns-then-number-ne0 : goal.returns-then-number-ne0
-returns-then-number-ne0 c = off_eq _ c.if-number-ne0.true refl
-
-pub breach-requires : goal.breach-requires
-breach-requires c = (c.requires.0 ∙ long_is c.args.k, search rules, omega (arith, c.requires.0), c.requires.1)
-
 pub returns : goal.returns
-returns c = on_eq _ c.if-number-ne0.false c.breach.ensures
+returns c =
+    on_eq _ c.if-broken-ne0.false
+    (c.unwrap_or.ensures ∙ ap (λ (o : Option Breach). unwrap_or o none) c.breach.ensures ∙ kept_in _ _ _ _ _ _ _ _)

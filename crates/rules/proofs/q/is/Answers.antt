@@ -1,8 +1,0 @@
-use Prim.Native.Nat.{ℕ}
-use mathlib.Core.Path.{ap, ◌∙◌}
-use mathlib.Core.List.{List}
-use Rattle.fields.specs.Class.{same}
-use Rattle.rules.proofs.q.is.Goals as goal
-
-pub returns : goal.returns
-returns c = c.same.ensures ∙ ap (λ (s : List ℕ). same s c.args.want.now) c.field.ensures.bytes

@@ -1,6 +1,0 @@
-use mathlib.Core.Path.{ap, ◌∙◌}
-use Rattle.fields.specs.Class.{all_of}
-use Rattle.rules.proofs.z.all.Goals as goal
-
-pub returns : goal.returns
-returns c = c.all.ensures ∙ ap (all_of _) c.field.ensures.bytes
