@@ -24,10 +24,10 @@ pub sound_is : (found : Result Totals Refusal) → IfErr found (λ why. number_o
 sound_is (Ok t) real = refl
 sound_is (Err why) real = sym (ne_eqb _ _ real)
 
-pub sound_size : {page : ℕ} {g transfer cheque : List ℕ} (found : Result Totals Refusal) → verdict_in found ≡ verdict_of page g transfer cheque
+pub sound_size : (page : ℕ) (g transfer cheque : List ℕ) (found : Result Totals Refusal) → verdict_in found ≡ verdict_of page g transfer cheque
     → is_ok found ≡ true → Sized g
-sound_size {page} {g} {transfer} {cheque} (Ok t) e sound = sound_sized page g transfer cheque e refl
-sound_size (Err why) e sound = cc
+sound_size page g transfer cheque (Ok t) e sound = sound_sized page g transfer cheque e refl
+sound_size page g transfer cheque (Err why) e sound = cc
 
 -- whether a sound file yields the pair: it is sound, no character is left to replace, and the notes fit
 module _ (page : ℕ) (g ns transfer cheque : List ℕ) where
