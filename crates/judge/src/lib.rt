@@ -13,6 +13,7 @@ ghost use Rattle.judge.specs.Verdict.{refused, verdict_of, judge_of, JudgedAs};
 ghost use Rattle.judge.specs.declared.Refusal.TheVariants.{Structure, Broken};
 
 use records::{QField, TField};
+use std::ops::Range;
 use structure::Misfit;
 
 // The first broken rule, its record, and the place there of the field that breaks it; zeros where none is broken.
@@ -187,28 +188,16 @@ fn fault(
 }
 
 // The rules of record k: from its first up to below its end.
-pub fn rule_from(n: usize, k: usize) -> usize
-    ensures { result ≡ rule_from n k }
+pub fn rules_of(n: usize, k: usize) -> Range<usize>
+    ensures { (result.start ≡ rule_from n k) × (result.end ≡ rule_end n k) }
 {
     if k == 0 {
-        return 10;
+        return 10..17;
     }
     if k <= n {
-        return 20;
+        return 20..36;
     }
-    40
-}
-
-pub fn rule_end(n: usize, k: usize) -> usize
-    ensures { result ≡ rule_end n k }
-{
-    if k == 0 {
-        return 17;
-    }
-    if k <= n {
-        return 36;
-    }
-    43
+    40..43
 }
 
 // The slot of record k in bytes that stand from place skip of a file on.
@@ -239,7 +228,8 @@ pub fn run(
     let mut found = None;
     'records: for k in from..to {
         let slot = slot_in(bytes, skip, k);
-        for rule in rule_from(payments, k)..rule_end(payments, k) {
+        let rules = rules_of(payments, k);
+        for rule in rules.start..rules.end {
             if let Some(at) = fault(page, transfer, cheque, key, payments, euros, slot, k, rule) {
                 found = Some(Breach {
                     number: rule,
@@ -352,6 +342,7 @@ fn with_taken(
     Ok(totals)
 }
 
+// The same in one struct for hosts.
 pub fn judge(page: u32, file: &[u8], transfer: &[u8], cheque: &[u8], taken: &[u64]) -> Verdict
     ensures { JudgedAs page file.now transfer.now cheque.now taken.now result }
 {

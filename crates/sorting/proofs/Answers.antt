@@ -12,7 +12,6 @@ use Rattle.payments.specs.Rules.{key_of}
 use Rattle.structure.specs.Slots.{slot_at}
 use Rattle.structure.specs.Walk.{structure_of}
 use Rattle.structure.specs.Shape.{Shape, Fits}
-use Rattle.judge.specs.First.{first_rule}
 use Rattle.judge.specs.Content.{fault_of, rule_from, rule_end, content_of, rule_real}
 use Rattle.judge.specs.Meaning.{none_broken}
 use Rattle.judge.specs.Found.{unbroken, was_broken, was_whole}

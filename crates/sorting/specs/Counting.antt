@@ -172,37 +172,26 @@ module _ (page : ℕ) (file transfer cheque : List ℕ) (n : ℕ) (e : structure
       )
 
   module _ (k : ℕ) (l : k < n) {f : Figures} (h : CountedIn page file transfer cheque k f) where
-    pub counted_next : (first : ℕ) → first ≡ rule (slot_at file (k + 1))
+    counted_next : (first : ℕ) → first ≡ rule (slot_at file (k + 1))
         → Small f × CountedIn page file transfer cheque (k + 1) (with_one f first (slot_at file (k + 1)))
     unfolding kept_file
     counted_next first asked =
         counted_behind (t_records file) (z_of file n e page transfer cheque) k first l (records_split file n e k l)
         (kept_lengths file n e page transfer cheque) (kept_few file n e page transfer cheque) asked h
 
-  -- record k is counted behind those before it: one that is kept, and one that is returned
-  module _ (k : ℕ) (low : 1 ≤ k) (high : k ≤ n) {f : Figures} (h : CountedIn page file transfer cheque (k - 1) f) where
-    record_counted : (first : ℕ) → first ≡ rule (slot_at file k)
-        → Small f × CountedIn page file transfer cheque (k + 1 - 1) (with_one f first (slot_at file k))
-    record_counted first asked =
-        let back : k - 1 + 1 ≡ k = omega arith in
-        let here : k - 1 + 1 ≡ k + 1 - 1 = omega arith in
-        let next = counted_next (k - 1) (omega arith) h first (asked ∙ ap (λ (j : ℕ). rule (slot_at file j)) (sym back)) in (
-          next.0,
-          subst (λ (m : ℕ). CountedIn page file transfer cheque m (with_one f first (slot_at file k))) here
-              (subst (λ (j : ℕ). CountedIn page file transfer cheque (k - 1 + 1) (with_one f first (slot_at file j))) back next.1),
-        )
-
+  -- by what is found: one that is kept, and one that is returned
+  module _ (k : ℕ) (l : k < n) {f : Figures} (h : CountedIn page file transfer cheque k f) where
     pub counted_small : Small f
-    counted_small = (record_counted (rule (slot_at file k)) refl).0
+    counted_small = (counted_next k l h (rule (slot_at file (k + 1))) refl).0
 
-    module _ (o : Option ℕ) (told : o ≡ nonzero (rule (slot_at file k))) where
-      pub counted_kept : is_some o ≡ false → CountedIn page file transfer cheque (k + 1 - 1) (with_one f 0 (slot_at file k))
-      counted_kept t = (record_counted 0 (sym (is_zero o told t))).1
+    module _ (o : Option ℕ) (told : o ≡ nonzero (rule (slot_at file (k + 1)))) where
+      pub counted_kept : is_some o ≡ false → CountedIn page file transfer cheque (k + 1) (with_one f 0 (slot_at file (k + 1)))
+      counted_kept t = (counted_next k l h 0 (sym (is_zero o told t))).1
 
-      pub counted_returned : is_some o ≡ true → CountedIn page file transfer cheque (k + 1 - 1) f
+      pub counted_returned : is_some o ≡ true → CountedIn page file transfer cheque (k + 1) f
       counted_returned t =
-          subst (CountedIn page file transfer cheque (k + 1 - 1)) (sym (one_returned f (rule (slot_at file k)) (slot_at file k) (is_real o told t)))
-          (record_counted (rule (slot_at file k)) refl).1
+          subst (CountedIn page file transfer cheque (k + 1)) (sym (one_returned f (rule (slot_at file (k + 1))) (slot_at file (k + 1)) (is_real o told t)))
+          (counted_next k l h (rule (slot_at file (k + 1))) refl).1
 
   pub counted_all : {f : Figures} → CountedIn page file transfer cheque n f → f ≡ figures_of page file transfer cheque
   unfolding kept_file figures_of

@@ -1,10 +1,10 @@
 -- A file that fits, with n T records: its records, its kept file's, and record k + 1 among them.
-use Rattle.std.specs.Prelude.{ℕ, suc, ◌+◌, ◌-◌, ◌≤◌, ◌<◌, ◌≡◌, List, [], ◌∷◌, ◌++◌, length}
+use Rattle.std.specs.Prelude.{ℕ, suc, ◌+◌, ◌-◌, ◌≤◌, ◌<◌, ◌≡◌, List, [], ◌∷◌, ◌++◌, length, get_or}
 use Rattle.std.proofs.Common.{refl, sym, ap₂, subst, ◌∙◌, arith}
 use Rattle.std.proofs.Math.Path.{ap}
 use Rattle.laws.specs.Sums.{sum_of}
 use Rattle.records.specs.Places.{record_at}
-use Rattle.structure.specs.Slots.{slot_at, q_long, t_long, z_long, place_in}
+use Rattle.structure.specs.Slots.{slot_at, place_is, later_width, slot_full, q_long, t_long, z_long, place_in}
 use Rattle.structure.specs.Walk.{structure_of}
 use Rattle.structure.specs.Fits.{Fit, fits}
 use Rattle.structure.specs.Shape.{Shape, Fits}
@@ -12,6 +12,7 @@ use Rattle.judge.specs.Sums.{euros}
 use Rattle.judge.specs.Records.{file_of, AllLong, Lengths}
 use Rattle.judge.specs.Apart.{slots_from, slots_count, made}
 use Rattle.forwarding.specs.Sized.{Sized}
+use Rattle.forwarding.specs.Turns.{turn, turns, turns_many, turn_is}
 use Rattle.sorting.specs.Kept.{fresh_z, records_by, t_records, rule_in, kept_in, kept_file}
 use Rattle.sorting.specs.Lists.{counts_add, kept_long}
 use Rattle.sorting.specs.Fresh.{fresh_long}
@@ -85,6 +86,19 @@ module _ (file : List ℕ) (n : ℕ) (e : structure_of file ≡ Fits n) where
 
   pub z_there : (n + 1 ≤ 10000) × (record_at (n + 1) ≤ length file) × (length (slot_at file (n + 1)) ≡ 256)
   z_there = let f = found (n + 1) (omega arith) in (f.0, f.1, z_found refl)
+
+  -- and goes over the T records
+  abbrev pub sized : Sized file
+  sized = record { payments = n; long = fit.long; most = fit.most }
+
+  module _ {ts : List (List ℕ)} (are : ts ≡ turns file) where
+    pub turns_count : length ts ≡ n
+    turns_count = turns_many sized are
+
+    pub turn_slot : (k : ℕ) → k < n → get_or ts k [] ≡ slot_at file (k + 1)
+    turn_slot k l =
+        turn_is sized are (omega (arith, turns_count))
+        ∙ slot_full file (k + 1) (turn k) 768 (omega (arith, place_is (k + 1))) (sym (later_width (k + 1) (omega arith)))
 
   -- the kept file's records
   module _ (page : ℕ) (transfer cheque : List ℕ) where

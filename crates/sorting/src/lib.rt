@@ -1,7 +1,7 @@
 // Sorting a file's payments: those that break a rule come back, and the others go on.
 #![tactic(auto)]
 
-ghost use Rattle.std.specs.Prelude.{◌≡◌, ◌+◌, ◌*◌, ◌≤◌, ◌<◌, Ok, IfErr, is_ok, length};
+ghost use Rattle.std.specs.Prelude.{◌≡◌, ℕ, ◌+◌, ◌*◌, ◌≤◌, ◌<◌, Ok, IfErr, is_ok, length};
 ghost use Rattle.laws.specs.Found.{nonzero};
 ghost use Rattle.records.specs.Places.{t_place};
 ghost use Rattle.rules.specs.Told.{offset};
@@ -136,9 +136,9 @@ fn with_one(had: Figures, t: &[u8; 768]) -> Figures
     }
 }
 
-// What the kept payments of a file with n T records come to.
-fn count_kept(page: u32, file: &[u8], n: usize, transfer: &[u8], cheque: &[u8]) -> Figures
-    requires { structure_of file.now ≡ Fits n }
+// What the kept payments of a file that fits come to.
+fn count_kept(page: u32, file: &[u8], transfer: &[u8], cheque: &[u8]) -> Figures
+    requires { (n : ℕ) × (structure_of file.now ≡ Fits n) }
     ensures { result ≡ figures_of page file.now transfer.now cheque.now }
 {
     let key = payments::key(structure::whole(file, 1));
@@ -147,8 +147,7 @@ fn count_kept(page: u32, file: &[u8], n: usize, transfer: &[u8], cheque: &[u8]) 
         euros: 0,
         changes: count::q_record(structure::whole(file, 0)),
     };
-    for k in 1..n + 1 {
-        let t = structure::whole(file, k);
+    for t in count::t_records(file) {
         if first_rule(page, transfer, cheque, key, t).is_none() {
             sum = with_one(sum, t);
         }
@@ -206,6 +205,7 @@ fn z_rules(
 }
 
 // Behind Q, which breaks no rule: amounts, then Z, and then the payments one by one.
+#[tactic(auto, using(crate::proofs::Answers::told_43, crate::proofs::Answers::told_going))]
 fn behind_q(
     page: u32,
     file: &[u8],
@@ -219,7 +219,7 @@ fn behind_q(
 {
     amounts(file, n)?;
     z_rules(page, file, n, euros, transfer, cheque)?;
-    let kept = count_kept(page, file, n, transfer, cheque);
+    let kept = count_kept(page, file, transfer, cheque);
     if kept.payments == 0 {
         return Err(Refusal::NothingKept);
     }

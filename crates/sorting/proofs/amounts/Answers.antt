@@ -1,4 +1,4 @@
-use Rattle.std.proofs.Common.{◌≡◌, ℕ, refl, sym, ap, ◌∙◌, arith, lit<, not, Ok, Err}
+use Rattle.std.proofs.Common.{◌≡◌, refl, sym, ap, ◌∙◌, arith, lit<, not, Ok, Err}
 use Rattle.laws.specs.Choice.{on, off, on_eq, off_eq}
 use Rattle.laws.specs.Scan.{goes, leaves, ends}
 use Rattle.records.specs.declared.Span.{Span}

@@ -1,6 +1,6 @@
 use Rattle.std.proofs.lemmas.Result.{err_from_is_err_and}
 use Rattle.sorting.specs.Frame.{fit}
-use Rattle.sorting.proofs.Answers.{kept_le, told_33, told_z, told_43, told_going}
+use Rattle.sorting.proofs.Answers.{kept_le, told_33, told_z}
 use Rattle.sorting.proofs.behind_q.Goals as goal
 
 pub amounts-requires : goal.amounts-requires
@@ -21,18 +21,7 @@ returns-in_err-z_rules c =
     let p = err_from_is_err_and r.result r.ensures.1 in
     rw (p.1, p.2) (told_z a.page a.file.now a.transfer.now a.cheque.now a.n c.requires.0 c.in_ok-amounts.ensures c.in_err-z_rules.ensures)
 
-pub returns-then-kept-eq0 : goal.returns-then-kept-eq0
-returns-then-kept-eq0 c =
-    let a = c.args in
-    told_43 a.page a.file.now a.transfer.now a.cheque.now a.n c.requires.0 c.in_ok-amounts.ensures c.in_ok-z_rules.ensures c.count_kept-kept.ensures c.if-kept-eq0.true
-
 pub going_on-requires : goal.going_on-requires
 going_on-requires c =
     let a = c.args in
     kept_le a.page a.file.now a.transfer.now a.cheque.now a.n c.requires.0 c.count_kept-kept.ensures c.requires.1
-
-pub returns : goal.returns
-returns c =
-    let a = c.args in
-    told_going a.page a.file.now a.transfer.now a.cheque.now a.n c.requires.0 c.in_ok-amounts.ensures c.in_ok-z_rules.ensures c.count_kept-kept.ensures
-    c.if-kept-eq0.false c.requires.1 c.going_on.ensures
