@@ -1,51 +1,64 @@
-use Rattle.std.proofs.Common.{◌≡◌, ◌-◌, ap, ap₂, sym, subst, ◌∙◌, arith, ℕ, List}
+use Rattle.std.proofs.Common.{◌≡◌, ◌+◌, ◌<◌, ap, ap₂, sym, subst, ◌∙◌, arith, lit<, ℕ, List, [], get_or}
 use Rattle.laws.specs.Found.{nonzero, or_zero}
 use Rattle.payments.specs.Rules.{key_of}
 use Rattle.structure.specs.Slots.{slot_at}
 use Rattle.sorting.specs.Kept.{first_of, rule_in}
-use Rattle.sorting.specs.Frame.{fit, t_there}
+use Rattle.sorting.specs.Frame.{fit, sized, turns_count, turn_slot, t_there}
 use Rattle.sending.specs.Turns.{RoomFor, paid_is}
-use Rattle.sending.specs.Sending.{send_first, one_room, one_sent, out_same, notes_same, list_same, send_last}
+use Rattle.sending.specs.Sending.{send_first, one_room, one_sent, send_last}
 use Rattle.sending.proofs.t_records.Goals as goal
+use Rattle.sending.proofs.t_records.Goals.{After-first_rule-rule}
 
 pub whole-requires : goal.whole-requires
 whole-requires c =
-    let a = c.args in
-    (omega arith, t_there a.file.now a.n c.requires.0 1 (omega arith) (fit a.file.now a.n c.requires.0).some)
+    let e = c.requires.0.1 in
+    (lit< tt, t_there c.args.file.now c.requires.0.0 e 1 (omega arith) (fit c.args.file.now c.requires.0.0 e).some)
 
-pub overflow_add-k-end : goal.overflow_add-k-end
-overflow_add-k-end c = omega (arith, (fit c.args.file.now c.args.n c.requires.0).most)
+pub t_records-t-items-requires : goal.t_records-t-items-requires
+t_records-t-items-requires c = sized c.args.file.now c.requires.0.0 c.requires.0.1
 
-pub loop-k-init : goal.loop-k-init
-loop-k-init c =
+pub loop-i-init : goal.loop-i-init
+loop-i-init c =
     let a = c.args in
-    send_first a.page a.file.now a.transfer.now a.cheque.now a.n c.requires.0 a.have a.out.now a.notes.now a.list.now c.requires.1
+    let t = a.terms.now in
+    send_first t.page a.file.now t.transfer.now t.cheque.now c.requires.0.0 c.requires.0.1 a.have a.out.now a.notes.now a.list.now c.requires.1
 
-pub whole-t-requires : goal.whole-t-requires
-whole-t-requires c =
-    let a = c.args in
-    (omega arith, t_there a.file.now a.n c.requires.0 c.loop-k.k (omega arith) (omega (arith, c.loop-k-test.true)))
+-- the payment of this turn, and what `first_rule` says of it
+more : (c : After-first_rule-rule) → c.loop-i.i < c.requires.0.0
+more c = omega (arith, turns_count c.args.file.now c.requires.0.0 c.requires.0.1 c.t_records-t-items.ensures)
+
+is : (c : After-first_rule-rule) → get_or c.t_records-t-items.result.now c.loop-i.i [] ≡ slot_at c.args.file.now (c.loop-i.i + 1)
+is c = turn_slot c.args.file.now c.requires.0.0 c.requires.0.1 c.t_records-t-items.ensures c.loop-i.i (more c)
+
+told : (c : After-first_rule-rule)
+    → c.first_rule-rule.result
+    ≡ nonzero (rule_in c.args.terms.now.page c.args.file.now c.args.terms.now.transfer.now c.args.terms.now.cheque.now (slot_at c.args.file.now (c.loop-i.i + 1)))
+told c =
+    let t = c.args.terms.now in
+    c.first_rule-rule.ensures ∙ ap nonzero (ap₂ (first_of t.page t.transfer.now t.cheque.now) (c.key-key.ensures.bytes ∙ ap key_of c.whole.ensures) (is c))
 
 pub payment-next-requires : goal.payment-next-requires
 payment-next-requires c =
     let a = c.args in
-    let l = c.loop-k in
-    let told : c.first_rule-rule.result ≡ nonzero (rule_in a.page a.file.now a.transfer.now a.cheque.now (slot_at a.file.now c.loop-k.k)) =
-    c.first_rule-rule.ensures ∙ ap nonzero (ap₂ (first_of a.page a.transfer.now a.cheque.now) (c.key-key.ensures.bytes ∙ ap key_of c.whole.ensures) c.whole-t.ensures) in
-    let room = one_room a.page a.file.now a.transfer.now a.cheque.now a.n c.requires.0 a.have a.out.now a.notes.now a.list.now c.requires.1 l.k (omega arith) (omega (arith, c.loop-k-test.true)) l.invariant c.first_rule-rule.result told in
-    (room.0, subst (λ (t : List ℕ). RoomFor t l.k (or_zero c.first_rule-rule.result) l.next l.out l.notes l.list) (sym c.whole-t.ensures) room.1)
+    let t = a.terms.now in
+    let l = c.loop-i in
+    let at = (goal.at.payment-next-requires c).After-first_rule-rule in
+    let room = one_room t.page a.file.now t.transfer.now t.cheque.now c.requires.0.0 c.requires.0.1 a.have a.out.now a.notes.now a.list.now c.requires.1 l.i (more at) l.invariant _ (told at) in
+    (room.0, subst (λ (t : List ℕ). RoomFor t (l.i + 1) (or_zero c.first_rule-rule.result) l.next l.out l.notes l.list) (sym (is at)) room.1)
 
-pub loop-k-preserved : goal.loop-k-preserved
-loop-k-preserved c =
+pub loop-i-preserved : goal.loop-i-preserved
+loop-i-preserved c =
     let a = c.args in
-    let l = c.loop-k in
-    let told : c.first_rule-rule.result ≡ nonzero (rule_in a.page a.file.now a.transfer.now a.cheque.now (slot_at a.file.now c.loop-k.k)) =
-    c.first_rule-rule.ensures ∙ ap nonzero (ap₂ (first_of a.page a.transfer.now a.cheque.now) (c.key-key.ensures.bytes ∙ ap key_of c.whole.ensures) c.whole-t.ensures) in
-    one_sent a.page a.file.now a.transfer.now a.cheque.now a.n c.requires.0 a.have a.out.now a.notes.now a.list.now c.requires.1 l.k (omega arith) (omega (arith, c.loop-k-test.true)) l.invariant c.first_rule-rule.result told
-    (paid_is c.whole-t.ensures c.payment-next.ensures)
+    let t = a.terms.now in
+    let l = c.loop-i in
+    let at = (goal.at.loop-i-preserved c).After-first_rule-rule in
+    one_sent t.page a.file.now t.transfer.now t.cheque.now c.requires.0.0 c.requires.0.1 a.have a.out.now a.notes.now a.list.now c.requires.1 l.i (more at) l.invariant _ (told at)
+    (paid_is (is at) c.payment-next.ensures)
 
 pub returns : goal.returns
 returns c =
     let a = c.args in
-    let l = c.loop-k in
-    send_last a.page a.file.now a.transfer.now a.cheque.now a.n c.requires.0 a.have a.out.now a.notes.now a.list.now c.requires.1 (l.k - 1) (omega arith) l.invariant (omega (arith, c.loop-k-test.false))
+    let t = a.terms.now in
+    let all = turns_count a.file.now c.requires.0.0 c.requires.0.1 c.t_records-t-items.ensures in
+    send_last t.page a.file.now t.transfer.now t.cheque.now c.requires.0.0 c.requires.0.1 a.have a.out.now a.notes.now a.list.now c.requires.1 c.loop-i.i
+    (omega (arith, all)) c.loop-i.invariant (omega (arith, all))
