@@ -11,6 +11,7 @@ ghost use Rattle.sending.specs.Turns.{Paid, RoomFor};
 ghost use Rattle.sending.specs.Sending.{RoomsIn, Sent};
 ghost use Rattle.sending.specs.Whole.{CanSend, FileSent};
 
+use payments::Terms;
 use records::{Field, Q, T, Z, ZField};
 
 // A number in digits, as many as there is room for.
@@ -66,7 +67,14 @@ fn payment(
         };
     }
     let end = next.at + T::LENGTH;
-    let have = place::t_record(page, rec, &mut out[next.at..end], next.at, notes, next.notes);
+    let have = place::t_record(
+        page,
+        rec,
+        &mut out[next.at..end],
+        next.at,
+        notes,
+        next.notes,
+    );
     Next {
         at: end,
         notes: have,
@@ -76,18 +84,16 @@ fn payment(
 
 // The T records of a file with n of them: the kept ones from Q's end on, their notes behind Q's, of which there are `have`.
 fn t_records(
-    page: u32,
+    terms: &Terms<'_>,
     file: &[u8],
     n: usize,
-    transfer: &[u8],
-    cheque: &[u8],
     have: usize,
     out: &mut [u8],
     notes: &mut [u32],
     list: &mut [u32],
 ) -> Next
-    requires { (structure_of file.now ≡ Fits n) × RoomsIn page file.now transfer.now cheque.now have out.old notes.old list.old }
-    ensures { Sent page file.now transfer.now cheque.now have out.old notes.old list.old result out.new notes.new list.new }
+    requires { (structure_of file.now ≡ Fits n) × RoomsIn terms.now.page file.now terms.now.transfer.now terms.now.cheque.now have out.old notes.old list.old }
+    ensures { Sent terms.now.page file.now terms.now.transfer.now terms.now.cheque.now have out.old notes.old list.old result out.new notes.new list.new }
 {
     let key = payments::key(structure::whole(file, 1));
     let mut next = Next {
@@ -97,31 +103,29 @@ fn t_records(
     };
     for k in 1..n + 1 {
         let t = structure::whole(file, k);
-        let rule = sorting::first_rule(page, transfer, cheque, key, t);
-        next = payment(page, t, k, rule, next, out, notes, list);
+        let rule = sorting::first_rule(terms, key, t);
+        next = payment(terms.page, t, k, rule, next, out, notes, list);
     }
     next
 }
 
 // The kept file into the output, its notes, and the names of what comes back. It keeps so many payments with so many euros.
 pub fn file(
-    page: u32,
+    terms: &Terms<'_>,
     file: &[u8],
     n: usize,
-    transfer: &[u8],
-    cheque: &[u8],
     kept: u64,
     euros: u64,
     out: &mut [u8],
     notes: &mut [u32],
     list: &mut [u32],
 )
-    requires { CanSend page file.now n transfer.now cheque.now kept euros out.old notes.old list.old }
-    ensures { FileSent page file.now transfer.now cheque.now out.old notes.old list.old out.new notes.new list.new }
+    requires { CanSend terms.now.page file.now n terms.now.transfer.now terms.now.cheque.now kept euros out.old notes.old list.old }
+    ensures { FileSent terms.now.page file.now terms.now.transfer.now terms.now.cheque.now out.old notes.old list.old out.new notes.new list.new }
 {
     let q = structure::whole(file, 0);
-    let have = place::q_record(page, q, &mut out[0..Q::LENGTH], notes);
-    let next = t_records(page, file, n, transfer, cheque, have, out, notes, list);
+    let have = place::q_record(terms.page, q, &mut out[0..Q::LENGTH], notes);
+    let next = t_records(terms, file, n, have, out, notes, list);
     let end = next.at + Z::LENGTH;
     let z = structure::whole(file, n + 1);
     fresh_z(z, kept, euros, &mut out[next.at..end]);

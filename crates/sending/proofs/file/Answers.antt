@@ -9,18 +9,18 @@ whole-q-requires c = (omega arith, q_there c.args.file.now c.args.n c.requires.f
 
 pub slice_bounds-q_record-end : goal.slice_bounds-q_record-end
 slice_bounds-q_record-end c = let a = c.args in
-    q_out a.page a.file.now a.n a.transfer.now a.cheque.now c.requires
+    q_out a.terms.now.page a.file.now a.n a.terms.now.transfer.now a.terms.now.cheque.now c.requires
 
 pub q_record-have-requires : goal.q_record-have-requires
 q_record-have-requires c =
     let a = c.args in
-    (between_long 0 256 a.out.now (q_out a.page a.file.now a.n a.transfer.now a.cheque.now c.requires), q_places a.page a.file.now a.n a.transfer.now a.cheque.now c.requires c.whole-q.ensures)
+    (between_long 0 256 a.out.now (q_out a.terms.now.page a.file.now a.n a.terms.now.transfer.now a.terms.now.cheque.now c.requires), q_places a.terms.now.page a.file.now a.n a.terms.now.transfer.now a.terms.now.cheque.now c.requires c.whole-q.ensures)
 
 pub t_records-next-requires : goal.t_records-next-requires
 t_records-next-requires c =
     let a = c.args in
     let q = c.q_record-have.ensures in
-    (c.requires.fits, rooms_behind a.page a.file.now a.n a.transfer.now a.cheque.now c.requires c.whole-q.ensures q.output refl q.noted)
+    (c.requires.fits, rooms_behind a.terms.now.page a.file.now a.n a.terms.now.transfer.now a.terms.now.cheque.now c.requires c.whole-q.ensures q.output refl q.noted)
 
 pub overflow_add-n : goal.overflow_add-n
 overflow_add-n c = omega (arith, (fit c.args.file.now c.args.n c.requires.fits).most)
@@ -32,4 +32,4 @@ pub returns : goal.returns
 returns c =
     let a = c.args in
     let q = c.q_record-have.ensures in
-    all_sent a.page a.file.now a.n a.transfer.now a.cheque.now c.requires c.whole-q.ensures q.output refl q.noted c.t_records-next.ensures c.whole-z.ensures c.fresh_z.ensures
+    all_sent a.terms.now.page a.file.now a.n a.terms.now.transfer.now a.terms.now.cheque.now c.requires c.whole-q.ensures q.output refl q.noted c.t_records-next.ensures c.whole-z.ensures c.fresh_z.ensures

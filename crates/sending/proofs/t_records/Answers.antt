@@ -19,7 +19,7 @@ overflow_add-k-end c = omega (arith, (fit c.args.file.now c.args.n c.requires.0)
 pub loop-k-init : goal.loop-k-init
 loop-k-init c =
     let a = c.args in
-    send_first a.page a.file.now a.transfer.now a.cheque.now a.n c.requires.0 a.have a.out.now a.notes.now a.list.now c.requires.1
+    send_first a.terms.now.page a.file.now a.terms.now.transfer.now a.terms.now.cheque.now a.n c.requires.0 a.have a.out.now a.notes.now a.list.now c.requires.1
 
 pub whole-t-requires : goal.whole-t-requires
 whole-t-requires c =
@@ -30,22 +30,22 @@ pub payment-next-requires : goal.payment-next-requires
 payment-next-requires c =
     let a = c.args in
     let l = c.loop-k in
-    let told : c.first_rule-rule.result ≡ nonzero (rule_in a.page a.file.now a.transfer.now a.cheque.now (slot_at a.file.now c.loop-k.k)) =
-    c.first_rule-rule.ensures ∙ ap nonzero (ap₂ (first_of a.page a.transfer.now a.cheque.now) (c.key-key.ensures.bytes ∙ ap key_of c.whole.ensures) c.whole-t.ensures) in
-    let room = one_room a.page a.file.now a.transfer.now a.cheque.now a.n c.requires.0 a.have a.out.now a.notes.now a.list.now c.requires.1 l.k (omega arith) (omega (arith, c.loop-k-test.true)) l.invariant c.first_rule-rule.result told in
+    let told : c.first_rule-rule.result ≡ nonzero (rule_in a.terms.now.page a.file.now a.terms.now.transfer.now a.terms.now.cheque.now (slot_at a.file.now c.loop-k.k)) =
+    c.first_rule-rule.ensures ∙ ap nonzero (ap₂ (first_of a.terms.now.page a.terms.now.transfer.now a.terms.now.cheque.now) (c.key-key.ensures.bytes ∙ ap key_of c.whole.ensures) c.whole-t.ensures) in
+    let room = one_room a.terms.now.page a.file.now a.terms.now.transfer.now a.terms.now.cheque.now a.n c.requires.0 a.have a.out.now a.notes.now a.list.now c.requires.1 l.k (omega arith) (omega (arith, c.loop-k-test.true)) l.invariant c.first_rule-rule.result told in
     (room.0, subst (λ (t : List ℕ). RoomFor t l.k (or_zero c.first_rule-rule.result) l.next l.out l.notes l.list) (sym c.whole-t.ensures) room.1)
 
 pub loop-k-preserved : goal.loop-k-preserved
 loop-k-preserved c =
     let a = c.args in
     let l = c.loop-k in
-    let told : c.first_rule-rule.result ≡ nonzero (rule_in a.page a.file.now a.transfer.now a.cheque.now (slot_at a.file.now c.loop-k.k)) =
-    c.first_rule-rule.ensures ∙ ap nonzero (ap₂ (first_of a.page a.transfer.now a.cheque.now) (c.key-key.ensures.bytes ∙ ap key_of c.whole.ensures) c.whole-t.ensures) in
-    one_sent a.page a.file.now a.transfer.now a.cheque.now a.n c.requires.0 a.have a.out.now a.notes.now a.list.now c.requires.1 l.k (omega arith) (omega (arith, c.loop-k-test.true)) l.invariant c.first_rule-rule.result told
+    let told : c.first_rule-rule.result ≡ nonzero (rule_in a.terms.now.page a.file.now a.terms.now.transfer.now a.terms.now.cheque.now (slot_at a.file.now c.loop-k.k)) =
+    c.first_rule-rule.ensures ∙ ap nonzero (ap₂ (first_of a.terms.now.page a.terms.now.transfer.now a.terms.now.cheque.now) (c.key-key.ensures.bytes ∙ ap key_of c.whole.ensures) c.whole-t.ensures) in
+    one_sent a.terms.now.page a.file.now a.terms.now.transfer.now a.terms.now.cheque.now a.n c.requires.0 a.have a.out.now a.notes.now a.list.now c.requires.1 l.k (omega arith) (omega (arith, c.loop-k-test.true)) l.invariant c.first_rule-rule.result told
     (paid_is c.whole-t.ensures c.payment-next.ensures)
 
 pub returns : goal.returns
 returns c =
     let a = c.args in
     let l = c.loop-k in
-    send_last a.page a.file.now a.transfer.now a.cheque.now a.n c.requires.0 a.have a.out.now a.notes.now a.list.now c.requires.1 (l.k - 1) (omega arith) l.invariant (omega (arith, c.loop-k-test.false))
+    send_last a.terms.now.page a.file.now a.terms.now.transfer.now a.terms.now.cheque.now a.n c.requires.0 a.have a.out.now a.notes.now a.list.now c.requires.1 (l.k - 1) (omega arith) l.invariant (omega (arith, c.loop-k-test.false))
