@@ -1,7 +1,7 @@
 use Rattle.std.proofs.Common.{refl, arith}
 use Rattle.forwarding.specs.Between.{between_long}
 use Rattle.sorting.specs.Frame.{fit, q_there, z_there}
-use Rattle.sending.specs.Whole.{q_out, q_places, rooms_behind, z_room, z_low, all_sent}
+use Rattle.sending.specs.Whole.{q_out, q_places, rooms_behind, all_sent}
 use Rattle.sending.proofs.file.Goals as goal
 
 pub whole-q-requires : goal.whole-q-requires

@@ -5,7 +5,7 @@ use Rattle.structure.specs.Slots.{slot_at}
 use Rattle.sorting.specs.Kept.{first_of, rule_in}
 use Rattle.sorting.specs.Frame.{fit, t_there}
 use Rattle.sending.specs.Turns.{RoomFor, paid_is}
-use Rattle.sending.specs.Sending.{send_first, one_room, one_sent, out_same, notes_same, list_same, send_last}
+use Rattle.sending.specs.Sending.{send_first, one_room, one_sent, send_last}
 use Rattle.sending.proofs.t_records.Goals as goal
 
 pub whole-requires : goal.whole-requires
