@@ -1,7 +1,7 @@
 // The character table by code page: one character, and a stretch of text in place.
 #![tactic(auto)]
 
-ghost use Rattle.std.specs.Prelude.{◌≡◌};
+ghost use Rattle.std.specs.Prelude.{◌≡◌, [], ◌∷◌};
 ghost use Rattle.charset.specs.Table.{is_page, unchanged, german, look, rep, text};
 
 // Whether there is such a page: 0 is DIN 66003, 1 is ISO 8859-1.
@@ -11,64 +11,33 @@ pub fn is_page(page: u32) -> bool
     (page == 0) | (page == 1)
 }
 
-// Whether a character stays as it is, on every page. Comparisons alone: a loop over them is compiled to many bytes a step.
+// Whether a character stays as it is, on every page. Tests with no branch: a loop over them is compiled to many bytes a step.
 pub fn unchanged(b: u8) -> bool
     ensures { result ≡ unchanged b }
 {
-    ((b'A' <= b) & (b <= b'Z'))
-        | ((b'a' <= b) & (b <= b'z'))
-        | ((b'0' <= b) & (b <= b'9'))
-        | ((b'+' <= b) & (b <= b'/'))
-        | (b == b' ')
-        | (b == b'%')
+    b.is_ascii_alphanumeric() | ((b'+' <= b) & (b <= b'/')) | (b == b' ') | (b == b'%')
 }
 
-// The German characters at their DIN 66003 codes, and a space for anything else.
-fn din_66003(b: u8) -> u8
-    ensures { result ≡ look (german 0) b }
+// The German characters by their four codes on a page, and a space for anything else.
+fn german<const A: u8, const O: u8, const U: u8, const S: u8>(b: u8) -> u8
+    ensures { result ≡ look ((A, 65) ∷ (O, 79) ∷ (U, 85) ∷ (S, 83) ∷ []) b }
 {
-    match b {
-        0x5B => b'A',
-        0x5C => b'O',
-        0x5D => b'U',
-        0x7E => b'S',
-        _ => b' ',
-    }
-}
-
-// The same at their ISO 8859-1 codes.
-fn iso_8859_1(b: u8) -> u8
-    ensures { result ≡ look (german 1) b }
-{
-    match b {
-        0xC4 => b'A',
-        0xD6 => b'O',
-        0xDC => b'U',
-        0xDF => b'S',
-        _ => b' ',
+    if b == A {
+        b'A'
+    } else if b == O {
+        b'O'
+    } else if b == U {
+        b'U'
+    } else if b == S {
+        b'S'
+    } else {
+        b' '
     }
 }
 
 // What a character becomes. Page 0 is DIN 66003, every other ISO 8859-1; no answer depends on any number but 0 and 1.
-pub fn replaced(page: u32, b: u8) -> u8
-    ensures { result ≡ rep page b }
-{
-    if unchanged(b) {
-        return b;
-    }
-    if b == b'&' {
-        return b'+';
-    }
-    if b == b'$' {
-        return b'S';
-    }
-    if page == 0 {
-        return din_66003(b);
-    }
-    iso_8859_1(b)
-}
-
-// The same with nothing returned early: a loop over it is compiled to sixteen bytes a step. For one character that is slower.
+#[inline(always)]
+#[tactic(auto, unfolding(crate::specs::Table::rep))]
 fn straight(page: u32, b: u8) -> u8
     ensures { result ≡ rep page b }
 {
@@ -79,19 +48,24 @@ fn straight(page: u32, b: u8) -> u8
     } else if b == b'$' {
         b'S'
     } else if page == 0 {
-        din_66003(b)
+        german::<0x5B, 0x5C, 0x5D, 0x7E>(b)
     } else {
-        iso_8859_1(b)
+        german::<0xC4, 0xD6, 0xDC, 0xDF>(b)
     }
+}
+
+// The same as a call, for one character.
+pub fn replaced(page: u32, b: u8) -> u8
+    ensures { result ≡ rep page b }
+{
+    straight(page, b)
 }
 
 // A stretch of text is replaced where it stands.
 pub fn replace(page: u32, part: &mut [u8])
     ensures { part.new ≡ text page part.old }
 {
-    let mut i = 0;
-    while i < part.len() {
+    for i in 0..part.len() {
         part[i] = straight(page, part[i]);
-        i += 1;
     }
 }

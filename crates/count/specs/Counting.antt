@@ -66,11 +66,9 @@ module _ {file : List ℕ} (sized : Sized file) where
         let l = fits sized b more in
         let here : c ≡ length (noted_in 0 at (at + 768) file) =
         e ∙ field_count t_texts at (between at (at + 768) file) ∙ sym (ap length (t_noted 0 file at b.turn l)) in
-        record {
-          begins = begins_next sized b more;
-          so_far =
-              omega (arith, counted.so_far, here, ap length (noted_more 0 file 0 at (at + 768) (omega arith) (omega arith) (omega arith)), length-append (noted_in 0 0 at file) (noted_in 0 at (at + 768) file));
-        }
+        let more_notes = ap length (noted_more 0 file 0 at (at + 768) (omega arith) (omega arith) (omega arith)) in
+        let sum = length-append (noted_in 0 0 at file) (noted_in 0 at (at + 768) file) in
+        record { begins = begins_next sized b more; so_far = omega (arith, counted.so_far, here, more_notes, sum) }
 
   -- the next record has some
   pub next_some : {at : ℕ} → Counted file 0 at → at < z_at file → (field_changes t_texts (between at (at + 768) file) ≡ 0 → ⊥)

@@ -4,4 +4,3 @@ pub mod Found
 pub mod Scan
 pub mod Steps
 pub mod Sums
-pub mod Values

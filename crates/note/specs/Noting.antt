@@ -57,9 +57,12 @@ module _ {file ps : List ℕ} {have : ℕ} (sized : Sized file) (room : have + l
 
       pub note_room : n + length (field_notes t_texts at (between at (at + 768) file)) ≤ length ps'
       note_room =
+          let ts = field_notes t_texts at (between at (at + 768) file) in
           let rest = noted_in 0 (at + 768) (z_at file) file in
-          let all = noted_more 0 file 256 (at + 768) (z_at file) (omega (arith, low)) (omega (arith, next.high)) (omega (arith, next.high)) in
-          omega (arith, room, note_same, noted.so_far.next_is, ap length all, length-append (noted_in 0 256 (at + 768) file) rest, ap length one_more, length-append (noted_in 0 256 at file) (field_notes t_texts at (between at (at + 768) file)))
+          let all = ap length (noted_more 0 file 256 (at + 768) (z_at file) (omega (arith, low)) (omega (arith, next.high)) (omega (arith, next.high))) in
+          let sum = length-append (noted_in 0 256 (at + 768) file) rest in
+          let sum' = length-append (noted_in 0 256 at file) ts in
+          omega (arith, room, note_same, noted.so_far.next_is, all, sum, ap length one_more, sum')
 
       pub note_next : {ps'' : List ℕ} {m : ℕ} → Noted (field_notes t_texts at (between at (at + 768) file)) n ps' ps'' m
           → NotedTo file have ps ps'' m (at + 768)
@@ -87,5 +90,6 @@ module _ (file ps : List ℕ) (sized : Sized file) (room : length (notes_of 0 fi
     pub t_room : n + length (noted_in 0 256 (z_at file) file) ≤ length ps'
     t_room = omega (arith, both, q.next_is, noted_length q (omega (arith, q_room)))
 
-    pub note_all : {ps'' : List ℕ} {m : ℕ} → Noted (noted_in 0 256 (z_at file) file) n ps' ps'' m → (page : ℕ) → Noted (notes_of page file) 0 ps ps'' m
+    pub note_all : {ps'' : List ℕ} {m : ℕ} → Noted (noted_in 0 256 (z_at file) file) n ps' ps'' m → (page : ℕ)
+        → Noted (notes_of page file) 0 ps ps'' m
     note_all t page = noted_is (sym whole ∙ notes_page 0 page file) (noted_append q t (omega (arith, q_room)))

@@ -33,19 +33,22 @@ fn field(
     ensures output { (ss : List Span) → part.old ≡ fwd (rep page) (lies ss) 0 rec.now → part.new ≡ fwd (rep page) (lies (ss ++ (text ∷ []))) 0 rec.now }
     ensures noted { Noted (field_notes (text ∷ []) at rec.now) have notes.old notes.new result }
 {
-    let start = text.start;
-    let end = text.end;
-    let n = note::field(&rec[start..], end - start, at + start, notes, have);
-    if n == have {
-        return n;
+    let n = note::field(
+        &rec[text.start..],
+        text.end - text.start,
+        at + text.start,
+        notes,
+        have,
+    );
+    if n != have {
+        charset::replace(page, &mut part[text.start..text.end]);
     }
-    charset::replace(page, &mut part[start..end]);
     n
 }
 
 // A record into its part of the output, and its notes.
-pub fn q_record(page: u32, rec: &[u8], part: &mut [u8], notes: &mut [u32]) -> usize
-    requires { (length rec.now ≡ 256) × (length part.old ≡ 256) × (length (field_notes q_texts 0 rec.now) ≤ length notes.old) }
+pub fn q_record(page: u32, rec: &[u8; 256], part: &mut [u8], notes: &mut [u32]) -> usize
+    requires { (length part.old ≡ 256) × (length (field_notes q_texts 0 rec.now) ≤ length notes.old) }
     ensures output { part.new ≡ fwd (rep page) (lies q_texts) 0 rec.now }
     ensures noted { Noted (field_notes q_texts 0 rec.now) 0 notes.old notes.new result }
 {
@@ -57,7 +60,7 @@ pub fn q_record(page: u32, rec: &[u8], part: &mut [u8], notes: &mut [u32]) -> us
 // these changes, no field has to be asked by itself.
 fn some_fields(
     page: u32,
-    rec: &[u8],
+    rec: &[u8; 768],
     from: usize,
     first: usize,
     end: usize,
@@ -66,7 +69,7 @@ fn some_fields(
     notes: &mut [u32],
     have: usize,
 ) -> usize
-    requires { (length rec.now ≡ 768) × (length part.old ≡ 768) × (at + 768 ≤ 7679744) × TheseLie from first end × (have + length (field_notes (texts_from first end) at rec.now) ≤ length notes.old) }
+    requires { (length part.old ≡ 768) × (at + 768 ≤ 7679744) × TheseLie from first end × (have + length (field_notes (texts_from first end) at rec.now) ≤ length notes.old) }
     ensures output { (ss : List Span) → part.old ≡ fwd (rep page) (lies ss) 0 rec.now → part.new ≡ fwd (rep page) (lies (ss ++ texts_from first end)) 0 rec.now }
     ensures noted { Noted (field_notes (texts_from first end) at rec.now) have notes.old notes.new result }
 {
@@ -74,10 +77,8 @@ fn some_fields(
         return have;
     }
     let mut n = have;
-    let mut k = first;
-    while k < end {
+    for k in first..end {
         n = field(page, rec, T::text(k), part, at, notes, n);
-        k += 1;
     }
     n
 }
@@ -85,13 +86,13 @@ fn some_fields(
 // The text fields of a T record whose bytes the part has: T8 to T10b, from place 53 on, and T12 to T24, from place 420 on.
 fn t_fields(
     page: u32,
-    rec: &[u8],
+    rec: &[u8; 768],
     part: &mut [u8],
     at: usize,
     notes: &mut [u32],
     have: usize,
 ) -> usize
-    requires { (length rec.now ≡ 768) × (part.old ≡ rec.now) × (at + 768 ≤ 7679744) × (have + length (field_notes t_texts at rec.now) ≤ length notes.old) }
+    requires { (part.old ≡ rec.now) × (at + 768 ≤ 7679744) × (have + length (field_notes t_texts at rec.now) ≤ length notes.old) }
     ensures output { part.new ≡ fwd (rep page) (lies t_texts) 0 rec.now }
     ensures noted { Noted (field_notes t_texts at rec.now) have notes.old notes.new result }
 {
@@ -102,13 +103,13 @@ fn t_fields(
 // The same of a T record that stands at a place of the file, with its notes behind those that there are.
 pub fn t_record(
     page: u32,
-    rec: &[u8],
+    rec: &[u8; 768],
     part: &mut [u8],
     at: usize,
     notes: &mut [u32],
     have: usize,
 ) -> usize
-    requires { (length rec.now ≡ 768) × (length part.old ≡ 768) × (at + 768 ≤ 7679744) × (have + length (field_notes t_texts at rec.now) ≤ length notes.old) }
+    requires { (length part.old ≡ 768) × (at + 768 ≤ 7679744) × (have + length (field_notes t_texts at rec.now) ≤ length notes.old) }
     ensures output { part.new ≡ fwd (rep page) (lies t_texts) 0 rec.now }
     ensures noted { Noted (field_notes t_texts at rec.now) have notes.old notes.new result }
 {
@@ -122,13 +123,10 @@ fn payments(page: u32, file: &[u8], out: &mut [u8], notes: &mut [u32], have: usi
     ensures output { out.new ≡ put 256 (sent_in page 256 (z_at file.now) file.now) out.old }
     ensures noted { Noted (noted_in 0 256 (z_at file.now) file.now) have notes.old notes.new result }
 {
-    let end = file.len() - Z::LENGTH;
     let mut n = have;
-    let mut at = Q::LENGTH;
-    while at < end {
-        let next = at + T::LENGTH;
-        n = t_record(page, &file[at..next], &mut out[at..next], at, notes, n);
-        at = next;
+    for (k, t) in count::t_records(file).iter().enumerate() {
+        let at = Q::LENGTH + T::LENGTH * k;
+        n = t_record(page, t, &mut out[at..at + T::LENGTH], at, notes, n);
     }
     n
 }
@@ -139,10 +137,11 @@ pub fn file(page: u32, file: &[u8], out: &mut [u8], notes: &mut [u32]) -> usize
     ensures output { out.new ≡ put 0 (forwarded page file.now) out.old }
     ensures noted { Noted (notes_of page file.now) 0 notes.old notes.new result }
 {
+    let q = file.first_chunk().unwrap();
+    let have = q_record(page, q, &mut out[0..Q::LENGTH], notes);
+    let n = payments(page, file, out, notes, have);
     let all = file.len();
     let end = all - Z::LENGTH;
-    let have = q_record(page, &file[0..Q::LENGTH], &mut out[0..Q::LENGTH], notes);
-    let n = payments(page, file, out, notes, have);
-    out[end..all].copy_from_slice(&file[end..all]);
+    out[end..all].copy_from_slice(&file[end..]);
     n
 }

@@ -125,11 +125,11 @@ module _ (r : Reader) (long : length r.held ≡ 768) (low : r.have ≤ 768) wher
       ∙ rw z at (put_put_at 0 r.have (pending r) cut r.held pending_long (omega arith))
 
 -- the rest of a cut, from the start of a record on
-module _ (t ch : List ℕ) (r : Reader) (first : Tally) (cut : List ℕ) {tally : Tally} {at : ℕ}
-    (ate : Ate r.page t ch first cut tally at) where
+module _ {page : ℕ} (t ch : List ℕ) (r : Reader) (first : Tally) (cut : List ℕ) {tally : Tally} {at : ℕ}
+    (ate : Ate page t ch first cut tally at) where
   pub rest_stopped : (tally.stop ≡ 0 → ⊥)
       → record { page = r.page; ended = r.ended; bytes = r.bytes; tally = tally; answer = r.answer; have = 0; held = r.held }
-      ≡ packed r (eat r.page t ch (mid first []) cut)
+      ≡ packed r (eat page t ch (mid first []) cut)
   rest_stopped n =
       (λ i. record {
         page = r.page;
@@ -140,11 +140,11 @@ module _ (t ch : List ℕ) (r : Reader) (first : Tally) (cut : List ℕ) {tally 
         have = 0;
         held = sym (put_none 0 r.held) i;
       })
-      ∙ ap (packed r) (sym (ate.same ∙ eat_stopped r.page t ch (mid tally []) n (drop at cut)))
+      ∙ ap (packed r) (sym (ate.same ∙ eat_stopped page t ch (mid tally []) n (drop at cut)))
 
   pub rest_held : {held : List ℕ} → tally.stop ≡ 0 → held ≡ put 0 (take (length cut - at) (drop at cut)) r.held
       → record { page = r.page; ended = r.ended; bytes = r.bytes; tally = tally; answer = r.answer; have = length cut - at; held = held }
-      ≡ packed r (eat r.page t ch (mid first []) cut)
+      ≡ packed r (eat page t ch (mid first []) cut)
   rest_held {held} z e =
       let l = length-drop at cut in
       let all : take (length cut - at) (drop at cut) ≡ drop at cut = take_all (length cut - at) (drop at cut) (omega arith) in
@@ -157,16 +157,16 @@ module _ (t ch : List ℕ) (r : Reader) (first : Tally) (cut : List ℕ) {tally 
         have = sym l i;
         held = (e ∙ ap (λ (xs : List ℕ). put 0 xs r.held) all) i;
       })
-      ∙ ap (packed r) (sym (ate.same ∙ eat_short r.page t ch tally z [] (drop at cut) (omega (arith, ate.short z))))
+      ∙ ap (packed r) (sym (ate.same ∙ eat_short page t ch tally z [] (drop at cut) (omega (arith, ate.short z))))
 
 -- a cut, by the ways through the code
-module _ (t ch : List ℕ) (r : Reader) (long : length r.held ≡ 768) (low : r.have ≤ 768) (cut : List ℕ) where
-  pub eats_stopped : (r.tally.stop ≡ 0 → ⊥) → r ≡ packed r (eat r.page t ch (view r) cut)
-  eats_stopped n = stays r long low ∙ ap (packed r) (sym (eat_stopped r.page t ch (view r) n cut))
+module _ (page : ℕ) (t ch : List ℕ) (r : Reader) (long : length r.held ≡ 768) (low : r.have ≤ 768) (cut : List ℕ) where
+  pub eats_stopped : (r.tally.stop ≡ 0 → ⊥) → r ≡ packed r (eat page t ch (view r) cut)
+  eats_stopped n = stays r long low ∙ ap (packed r) (sym (eat_stopped page t ch (view r) n cut))
 
   pub eats_held : {held : List ℕ} → r.tally.stop ≡ 0 → r.have + length cut < width_at r.tally.next → held ≡ put r.have cut r.held
       → record { page = r.page; ended = r.ended; bytes = r.bytes; tally = r.tally; answer = r.answer; have = r.have + length cut; held = held }
-      ≡ packed r (eat r.page t ch (view r) cut)
+      ≡ packed r (eat page t ch (view r) cut)
   eats_held {held} z h e =
       let l = pending_long r long low in
       let w = width_le r.tally.next in
@@ -179,16 +179,16 @@ module _ (t ch : List ℕ) (r : Reader) (long : length r.held ≡ 768) (low : r.
         have = sym (length-append (pending r) cut ∙ ap (λ (n : ℕ). n + length cut) l) i;
         held = (e ∙ holds r long low cut (omega arith)) i;
       })
-      ∙ ap (packed r) (sym (eat_short r.page t ch r.tally z (pending r) cut (omega arith)))
+      ∙ ap (packed r) (sym (eat_short page t ch r.tally z (pending r) cut (omega arith)))
 
   pub eats_full : {first : Tally} {need : ℕ} {next : Reader} → r.tally.stop ≡ 0 → r.have + need ≡ width_at r.tally.next
-      → need ≤ length cut → 0 < need → first ≡ settle_of r.page t ch r.tally (pending r ++ take need cut)
-      → next ≡ packed r (eat r.page t ch (mid first []) (drop need cut)) → next ≡ packed r (eat r.page t ch (view r) cut)
+      → need ≤ length cut → 0 < need → first ≡ settle_of page t ch r.tally (pending r ++ take need cut)
+      → next ≡ packed r (eat page t ch (mid first []) (drop need cut)) → next ≡ packed r (eat page t ch (view r) cut)
   eats_full {first} {need} {next} z h l pos f e =
       e
       ∙ ap (packed r)
-      (ap (λ (c : Tally). eat r.page t ch (mid c []) (drop need cut)) f
+      (ap (λ (c : Tally). eat page t ch (mid c []) (drop need cut)) f
       ∙ sym
-      (eat_slot r.page t ch r.tally z (pending r) (take need cut) (drop need cut) (omega (arith, length-take need cut))
+      (eat_slot page t ch r.tally z (pending r) (take need cut) (drop need cut) (omega (arith, length-take need cut))
       (omega (arith, length-take need cut, pending_long r long low)))
-      ∙ ap (eat r.page t ch (view r)) (take-append-drop need cut))
+      ∙ ap (eat page t ch (view r)) (take-append-drop need cut))

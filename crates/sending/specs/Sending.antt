@@ -3,6 +3,7 @@ use Rattle.std.specs.Prelude.{ℕ, ◌+◌, ◌-◌, ◌≤◌, ◌<◌, ◌≡�
 use Rattle.std.proofs.Common.{sym, ap, subst, ◌∙◌, arith, length-append}
 use Rattle.laws.specs.Found.{nonzero, or_zero, or_zero_nonzero}
 use Rattle.payments.specs.Rules.{key_of}
+use Rattle.sorting.proofs.Sound.{first_below}
 use Rattle.structure.specs.Slots.{slot_at}
 use Rattle.structure.specs.Walk.{structure_of}
 use Rattle.structure.specs.Shape.{Fits}
@@ -123,9 +124,9 @@ module _ (page : ℕ) (file transfer cheque : List ℕ) (n : ℕ) (e : structure
 
     pub one_room : (o ≡ nonzero (or_zero o)) × RoomFor (slot_at file k) k (or_zero o) next out' notes' list'
     one_room =
-        let low : or_zero o < 100 = omega (arith, first, first_below page transfer cheque (key_of (slot_at file 1)) (slot_at file k)) in (
+        let small : or_zero o < 100 = omega (arith, first, first_below page transfer cheque (key_of (slot_at file 1)) (slot_at file k)) in (
           told ∙ ap nonzero (sym first),
-          subst (λ (j : ℕ). RoomFor (slot_at file j) j (or_zero o) next out' notes' list') back (send_room (k - 1) (omega arith) h (or_zero o) asked low),
+          subst (λ (j : ℕ). RoomFor (slot_at file j) j (or_zero o) next out' notes' list') back (send_room (k - 1) (omega arith) h (or_zero o) asked small),
         )
 
     pub one_sent : {next'' : Next} {out'' notes'' list'' : List ℕ} → Paid page (slot_at file k) k (or_zero o) next out' notes' list' next'' out'' notes'' list''

@@ -89,14 +89,14 @@ fn t_records(
     requires { (structure_of file.now ≡ Fits n) × RoomsIn page file.now transfer.now cheque.now have out.old notes.old list.old }
     ensures { Sent page file.now transfer.now cheque.now have out.old notes.old list.old result out.new notes.new list.new }
 {
-    let key = payments::key(structure::slot(file, 1));
+    let key = payments::key(structure::whole(file, 1));
     let mut next = Next {
         at: Q::LENGTH,
         notes: have,
         names: 0,
     };
     for k in 1..n + 1 {
-        let t = structure::slot(file, k).as_array::<768>().unwrap();
+        let t = structure::whole(file, k);
         let rule = sorting::first_rule(page, transfer, cheque, key, t);
         next = payment(page, t, k, rule, next, out, notes, list);
     }
@@ -119,10 +119,10 @@ pub fn file(
     requires { CanSend page file.now n transfer.now cheque.now kept euros out.old notes.old list.old }
     ensures { FileSent page file.now transfer.now cheque.now out.old notes.old list.old out.new notes.new list.new }
 {
-    let q = structure::slot(file, 0);
+    let q = structure::whole(file, 0);
     let have = place::q_record(page, q, &mut out[0..Q::LENGTH], notes);
     let next = t_records(page, file, n, transfer, cheque, have, out, notes, list);
     let end = next.at + Z::LENGTH;
-    let z = structure::slot(file, n + 1).as_array::<256>().unwrap();
+    let z = structure::whole(file, n + 1);
     fresh_z(z, kept, euros, &mut out[next.at..end]);
 }

@@ -1,18 +1,15 @@
-use Rattle.laws.specs.Steps.{over}
-use Rattle.fields.specs.Class.{all_of}
-use Rattle.fields.specs.Laws.{text_turn}
+use Rattle.std.specs.Prelude.{ℕ}
+use Rattle.std.proofs.lemmas.List.Folds.{list_all-map}
+use Rattle.charset.specs.Table.{rep}
+use Rattle.std.proofs.Common.{rules}
+use Rattle.std.proofs.lemmas.Iterator.{YieldsList-from_slice}
+use Rattle.std.proofs.lemmas.Iterator.Search.{all_from_yields_List}
+use Rattle.fields.specs.Class.{member, all_of}
+use Rattle.fields.specs.Laws.{every_is}
 use Rattle.fields.proofs.all_text.Goals as goal
-
-pub returns-then-not-text_belongs : goal.returns-then-not-text_belongs
-returns-then-not-text_belongs c =
-    rw c.if-not-text_belongs.true
-    at (text_turn _ _ _ _ _ _ c.loop-i-test.true c.loop-i.invariant c.text_belongs.ensures)
-
-pub loop-i-preserved : goal.loop-i-preserved
-loop-i-preserved c =
-    rw c.if-not-text_belongs.false
-    at (text_turn _ _ _ _ _ _ c.loop-i-test.true c.loop-i.invariant c.text_belongs.ensures)
 
 pub returns : goal.returns
 unfolding all_of
-returns c = rw (over _ _ c.loop-i-test.false) at c.loop-i.invariant
+returns c =
+    rw (every_is, list_all-map)
+    (all_from_yields_List (λ (b : ℕ). member c.args.c (rep c.args.page b)) _ _ _ c.all.ensures.ran (YieldsList-from_slice c.args.s.now cc) (λ x b q k. search rules))

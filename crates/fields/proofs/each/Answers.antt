@@ -1,18 +1,12 @@
-use Rattle.laws.specs.Steps.{over}
-use Rattle.fields.specs.Class.{all_of}
-use Rattle.fields.specs.Laws.{bytes_turn}
+use Rattle.std.proofs.Common.{rules}
+use Rattle.std.proofs.lemmas.Iterator.{YieldsList-from_slice}
+use Rattle.std.proofs.lemmas.Iterator.Search.{all_from_yields_List}
+use Rattle.fields.specs.Class.{member, all_of}
+use Rattle.fields.specs.Laws.{every_is}
 use Rattle.fields.proofs.each.Goals as goal
-
-pub returns-then-not-belongs : goal.returns-then-not-belongs
-returns-then-not-belongs c =
-    rw c.if-not-belongs.true
-    at (bytes_turn _ _ _ _ _ c.loop-i-test.true c.loop-i.invariant c.belongs.ensures)
-
-pub loop-i-preserved : goal.loop-i-preserved
-loop-i-preserved c =
-    rw c.if-not-belongs.false
-    at (bytes_turn _ _ _ _ _ c.loop-i-test.true c.loop-i.invariant c.belongs.ensures)
 
 pub returns : goal.returns
 unfolding all_of
-returns c = rw (over _ _ c.loop-i-test.false) at c.loop-i.invariant
+returns c =
+    rw every_is
+    (all_from_yields_List (member c.args.c) _ _ _ c.all.ensures.ran (YieldsList-from_slice c.args.s.now cc) (λ x b q k. search rules))

@@ -1,11 +1,8 @@
-use mathlib.Core.Path.{◌≡◌}
-use Prim.Native.Nat.{◌*◌, ◌-◌, ◌≤◌}
-use lib.ListN.{drop}
+use Rattle.std.proofs.Common.{◌≡◌, false, take}
+use Rattle.std.specs.List.{list_any}
 use Rattle.fields.specs.Lists.{is_listed}
 use Rattle.fields.proofs.listed.Given as goal
 
-abbrev pub invariant-loop-k : goal.invariant-loop-k
-invariant-loop-k l = (l.k ≤ l.fours) × (is_listed (drop (8 * l.k) l.list) l.a l.b ≡ is_listed l.list l.a l.b)
-
-abbrev pub decreases-loop-k : goal.decreases-loop-k
-decreases-loop-k l = l.fours - l.k
+-- none of the fours so far
+abbrev pub invariant-loop-four : goal.invariant-loop-four
+invariant-loop-four l = list_any (λ four. is_listed four l.a l.b) (take l.four-index l.fours) ≡ false

@@ -1,6 +1,4 @@
-use native.Mathlib.Omega.{arith}
-use mathlib.Core.Path.{ap}
-use lib.ListN.{length}
+use Rattle.std.proofs.Common.{ap, arith, length}
 use Rattle.forwarding.specs.Fields.{field_more, field_kept}
 use Rattle.forwarding.specs.Noted.{noted_is}
 use Rattle.place.specs.Placing.{there_long, its_notes, not_noted}
@@ -16,17 +14,24 @@ field-n-requires c =
       omega (arith, c.requires.4, ap length (its_notes a.text a.rec.now h l a.at)),
     )
 
-pub returns-then-n-have : goal.returns-then-n-have
-returns-then-n-have c =
+pub returns-then-n-have-clause-output : goal.returns-then-n-have-clause-output
+returns-then-n-have-clause-output c = λ ss so_far.
     let a = c.args in
-    let h = c.requires.0 in
-    let l = c.requires.1 in
-    let noted = noted_is (its_notes a.text a.rec.now h l a.at) c.field-n.ensures in
-    record { output = λ ss so_far. field_kept a.page ss a.text a.rec.now a.part.now h (omega arith) so_far (not_noted a.text a.rec.now h l a.at noted c.if-n-have.true); noted = noted }
+    field_more a.page ss a.text a.rec.now a.part.now _ c.requires.0 (omega (arith, c.requires.1, c.requires.2)) so_far c.replace.ensures
 
-pub returns : goal.returns
-returns c =
+pub returns-then-n-have-clause-noted : goal.returns-then-n-have-clause-noted
+returns-then-n-have-clause-noted c =
     let a = c.args in
-    let h = c.requires.0 in
-    let l = c.requires.1 in
-    record { output = λ ss so_far. field_more a.page ss a.text a.rec.now a.part.now _ h (omega (arith, c.requires.2)) so_far c.replace.ensures; noted = noted_is (its_notes a.text a.rec.now h l a.at) c.field-n.ensures }
+    noted_is (its_notes a.text a.rec.now c.requires.0 c.requires.1 a.at) c.field-n.ensures
+
+pub returns-else-n-have-clause-output : goal.returns-else-n-have-clause-output
+returns-else-n-have-clause-output c = λ ss so_far.
+    let a = c.args in
+    let noted = noted_is (its_notes a.text a.rec.now c.requires.0 c.requires.1 a.at) c.field-n.ensures in
+    let none = not_noted a.text a.rec.now c.requires.0 c.requires.1 a.at noted c.if-n-have.false in
+    field_kept a.page ss a.text a.rec.now a.part.now c.requires.0 (omega (arith, c.requires.1)) so_far none
+
+pub returns-else-n-have-clause-noted : goal.returns-else-n-have-clause-noted
+returns-else-n-have-clause-noted c =
+    let a = c.args in
+    noted_is (its_notes a.text a.rec.now c.requires.0 c.requires.1 a.at) c.field-n.ensures

@@ -5,5 +5,5 @@ use Rattle.prepare.proofs.send_kept.Goals as goal
 
 pub overflow_add-n : goal.overflow_add-n
 overflow_add-n c =
-    let s = c.args.sorted in
+    let s = c.args.going in
     omega (arith, (fit c.args.file.now (s.payments.kept + s.payments.returned) c.requires.fits).most)
