@@ -1,6 +1,7 @@
 -- Laws of feeding: any cuts, a stopped walk, a short piece, a whole record.
-use Rattle.std.proofs.Common.{ℕ, ◌+◌, ◌-◌, ◌≤◌, ◌<◌, ◌≡◌, Bool, true, false, cond, length, take, drop, ltb, eqb, refl, ap, List, [], ◌∷◌, ◌++◌, append-nil, append_assoc, sym, ◌∙◌, arith, ltb-false, eqb-true, length-append, length-take, length-drop, take-append-drop, drop-drop, take_all, lit≤, lit<}
-use Rattle.laws.specs.Choice.{on_eq, off_eq, either}
+use Rattle.std.proofs.Common.{ℕ, ◌+◌, ◌-◌, ◌≤◌, ◌<◌, ◌≡◌, cond, length, take, drop, ltb, eqb, refl, ap, List, [], ◌∷◌, ◌++◌, append-nil, append_assoc, sym, ◌∙◌, arith, length-append, length-take, length-drop, take-append-drop, drop-drop, take_all}
+use Rattle.std.proofs.lemmas.Bool.Decides.{nat_tests}
+use Rattle.laws.specs.Choice.{on_eq, off_eq}
 use Rattle.structure.specs.Slots.{width_at}
 use Rattle.forwarding.specs.Put.{put, put_none, put_put_at}
 use Rattle.tally.specs.declared.Tally.{Tally}
@@ -9,10 +10,10 @@ use Rattle.reader.specs.declared.Reader.{Reader}
 use Rattle.reader.specs.State.{Mid, mid, push, eat, pending, view, packed}
 
 pub width_le : (k : ℕ) → width_at k ≤ 768
-width_le k = either (λ (n : ℕ). n ≤ 768) (eqb k 0) 256 768 (lit≤ tt) (lit≤ tt)
+width_le k = grind (arith, nat_tests)
 
 pub width_pos : (k : ℕ) → 0 < width_at k
-width_pos k = either (λ (n : ℕ). 0 < n) (eqb k 0) 256 768 (lit< tt) (lit< tt)
+width_pos k = grind (arith, nat_tests)
 
 length_snoc : (p : List ℕ) (x : ℕ) → length (p ++ (x ∷ [])) ≡ length p + 1
 length_snoc p x = length-append p (x ∷ [])
@@ -74,20 +75,10 @@ ready_of stop next left = cond (eqb stop 0) (cond (ltb left (width_at next)) 0 (
 
 module _ (stop k left w : ℕ) (e : w ≡ ready_of stop k left) where
   pub ready_go : (w ≡ 0 → ⊥) → (stop ≡ 0) × (w ≡ width_at k)
-  ready_go h = by (eqb stop 0) (ltb left (width_at k)) refl e
-    where
-      by : (a b : Bool) → eqb stop 0 ≡ a → w ≡ cond a (cond b 0 (width_at k)) 0 → (stop ≡ 0) × (w ≡ width_at k)
-      by false b p e = absurd (h e)
-      by true true p e = absurd (h e)
-      by true false p e = (eqb-true stop 0 p, e)
+  ready_go h = grind (arith, nat_tests)
 
   pub ready_le : w ≤ left
-  ready_le = by (eqb stop 0) (ltb left (width_at k)) refl e
-    where
-      by : (a b : Bool) → ltb left (width_at k) ≡ b → w ≡ cond a (cond b 0 (width_at k)) 0 → w ≤ left
-      by false b q e = omega arith
-      by true true q e = omega arith
-      by true false q e = omega (arith, ltb-false left (width_at k) q)
+  ready_le = grind (arith, nat_tests)
 
 -- of a cut, from the start of a record on: the records up to place `at` were settled, and no more lie whole in it
 pub record Ate (page : ℕ) (transfer cheque : List ℕ) (first : Tally) (cut : List ℕ) (tally : Tally) (at : ℕ) : Type 0 where
