@@ -17,6 +17,7 @@ ghost use Rattle.prepare.specs.Default.{DefaultAs};
 ghost use Rattle.prepare.specs.DefaultOutcome.{room_missing};
 
 use judge::Refusal;
+use payments::Terms;
 use sorting::{Going, Sorted};
 
 // Number 0, record 0 and how many notes there are; or the number of a refusal, its record, and 0.
@@ -99,20 +100,18 @@ fn send(page: u32, file: &[u8], out: &mut [u8], notes: &mut [u32]) -> Result<usi
 // A page that does not exist is 7, before anything is read; then soundness, then 60, then 61. The output and the notes only
 // where all is well.
 fn strictly(
-    page: u32,
+    terms: &Terms<'_>,
     file: &[u8],
-    transfer: &[u8],
-    cheque: &[u8],
     out: &mut [u8],
     notes: &mut [u32],
 ) -> Result<usize, Refusal>
-    ensures { PreparedAs page file.now transfer.now cheque.now out.old notes.old (prepared_in result) out.new notes.new }
+    ensures { PreparedAs terms.now.page file.now terms.now.transfer.now terms.now.cheque.now out.old notes.old (prepared_in result) out.new notes.new }
 {
-    if !charset::is_page(page) {
+    if !charset::is_page(terms.page) {
         return Err(Refusal::NoSuchPage);
     }
-    judge::examine(page, file, transfer, cheque)?;
-    send(page, file, out, notes)
+    judge::examine(terms, file)?;
+    send(terms.page, file, out, notes)
 }
 
 // The strict way.
@@ -126,7 +125,12 @@ pub fn strict(
 ) -> Prepared
     ensures { PreparedAs page file.now transfer.now cheque.now out.old notes.old result out.new notes.new }
 {
-    Prepared::from(strictly(page, file, transfer, cheque, out, notes))
+    let terms = Terms {
+        page,
+        transfer,
+        cheque,
+    };
+    Prepared::from(strictly(&terms, file, out, notes))
 }
 
 // What room the kept file lacks: 60, then 61, then 63.
@@ -134,69 +138,47 @@ fn room_missing(going: Going, bytes: usize, places: usize, names: usize) -> Resu
     requires { going.payments.kept ≤ 9999 }
     ensures { let missing = room_missing (sorted_of (Ok going)) bytes places names in MatchResult result (λ _. missing ≡ 0) (λ why. Short why missing) }
 {
-    room(512 + 768 * (going.payments.kept as usize), bytes, Refusal::OutputRoom)?;
+    let length = 512 + 768 * (going.payments.kept as usize);
+    room(length, bytes, Refusal::OutputRoom)?;
     room(going.notes, places, Refusal::NoteRoom)?;
     room(going.payments.returned as usize, names, Refusal::ListRoom)
 }
 
-// The kept payments of a file that was sorted, and the names of the others.
-fn send_kept(
-    page: u32,
-    file: &[u8],
-    going: Going,
-    transfer: &[u8],
-    cheque: &[u8],
-    out: &mut [u8],
-    notes: &mut [u32],
-    list: &mut [u32],
-)
-    requires { CanSend page file.now (going.payments.kept + going.payments.returned) transfer.now cheque.now going.payments.kept going.euros.kept out.old notes.old list.old }
-    ensures { FileSent page file.now transfer.now cheque.now out.old notes.old list.old out.new notes.new list.new }
-{
-    let kept = going.payments.kept;
-    let n = (kept + going.payments.returned) as usize;
-    sending::file(page, file, n, transfer, cheque, kept, going.euros.kept, out, notes, list);
-}
-
 // Sorting's refusals, then 60, 61 and 63; then the payments that are kept go on, and the others are named.
 fn sort_and_send(
-    page: u32,
+    terms: &Terms<'_>,
     file: &[u8],
-    transfer: &[u8],
-    cheque: &[u8],
     out: &mut [u8],
     notes: &mut [u32],
     list: &mut [u32],
 ) -> Result<Going, Refusal>
-    ensures { DefaultAs page file.now transfer.now cheque.now out.old notes.old list.old (sorted_of result) out.new notes.new list.new }
+    ensures { DefaultAs terms.now.page file.now terms.now.transfer.now terms.now.cheque.now out.old notes.old list.old (sorted_of result) out.new notes.new list.new }
 {
-    let going = sorting::sort(page, file, transfer, cheque)?;
+    let going = sorting::sort(terms, file)?;
     room_missing(going, out.len(), notes.len(), list.len())?;
-    send_kept(page, file, going, transfer, cheque, out, notes, list);
+    sending::file(terms, file, going, out, notes, list);
     Ok(going)
 }
 
 // A sound file has nothing to return and goes on whole, as the strict way sends it; any other is sorted.
 fn by_default(
-    page: u32,
+    terms: &Terms<'_>,
     file: &[u8],
-    transfer: &[u8],
-    cheque: &[u8],
     out: &mut [u8],
     notes: &mut [u32],
     list: &mut [u32],
 ) -> Result<Going, Refusal>
-    ensures { DefaultAs page file.now transfer.now cheque.now out.old notes.old list.old (sorted_of result) out.new notes.new list.new }
+    ensures { DefaultAs terms.now.page file.now terms.now.transfer.now terms.now.cheque.now out.old notes.old list.old (sorted_of result) out.new notes.new list.new }
 {
-    if !charset::is_page(page) {
+    if !charset::is_page(terms.page) {
         return Err(Refusal::NoSuchPage);
     }
-    match judge::examine(page, file, transfer, cheque) {
+    match judge::examine(terms, file) {
         Ok(sound) => {
-            let changes = send(page, file, out, notes)?;
+            let changes = send(terms.page, file, out, notes)?;
             Ok(sorting::whole(sound.payments, sound.euros, changes))
         }
-        Err(_) => sort_and_send(page, file, transfer, cheque, out, notes, list),
+        Err(_) => sort_and_send(terms, file, out, notes, list),
     }
 }
 
@@ -212,5 +194,10 @@ pub fn prepare(
 ) -> Sorted
     ensures { DefaultAs page file.now transfer.now cheque.now out.old notes.old list.old result out.new notes.new list.new }
 {
-    Sorted::from(by_default(page, file, transfer, cheque, out, notes, list))
+    let terms = Terms {
+        page,
+        transfer,
+        cheque,
+    };
+    Sorted::from(by_default(&terms, file, out, notes, list))
 }

@@ -7,7 +7,6 @@ use Rattle.judge.specs.Refusal.{number_of, verdict_in}
 use Rattle.judge.specs.Verdict.{verdict_of}
 use Rattle.judge.specs.declared.Refusal.{Refusal}
 use Rattle.judge.specs.declared.Totals.{Totals}
-use Rattle.judge.specs.declared.Verdict.{Verdict}
 use Rattle.forwarding.specs.Text.{text_at}
 use Rattle.forwarding.specs.Forwarded.{notes_of}
 use Rattle.forwarding.specs.Merge.{original_of, is_pair}

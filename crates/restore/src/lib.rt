@@ -10,6 +10,7 @@ ghost use Rattle.restore.specs.Answer.{restored_in};
 ghost use Rattle.restore.specs.Restored.{is_yielded, RestoredAs};
 
 use judge::Refusal;
+use payments::Terms;
 use records::{Q, Span, T, Z};
 
 // Number 0: restored. Else 7, 60 or 70. The record is always 0.
@@ -118,12 +119,12 @@ fn put_back(notes: &[u32], out: &mut [u8])
 
 // Some sound file yields the pair: the forwarded file is sound, nothing is left to replace in it, and every note fits.
 #[tactic(auto, using(crate::specs::Told::sound_is, crate::specs::Told::yielded_is))]
-fn is_yielded(page: u32, forwarded: &[u8], notes: &[u32], transfer: &[u8], cheque: &[u8]) -> bool
-    ensures { result ≡ is_yielded page forwarded.now notes.now transfer.now cheque.now }
+fn is_yielded(terms: &Terms<'_>, forwarded: &[u8], notes: &[u32]) -> bool
+    ensures { result ≡ is_yielded terms.now.page forwarded.now notes.now terms.now.transfer.now terms.now.cheque.now }
 {
-    judge::examine(page, forwarded, transfer, cheque).is_ok()
+    judge::examine(terms, forwarded).is_ok()
         && count::nothing(forwarded)
-        && notes_fit(page, forwarded, notes)
+        && notes_fit(terms.page, forwarded, notes)
 }
 
 // The forwarded file is copied to the front of the output, and the notes are put back there.
@@ -138,22 +139,20 @@ fn write(forwarded: &[u8], notes: &[u32], out: &mut [u8])
 // A page that does not exist is 7, before anything is read; then 60, then 70. Nothing is written before everything is
 // checked.
 fn give_back(
-    page: u32,
+    terms: &Terms<'_>,
     forwarded: &[u8],
     notes: &[u32],
-    transfer: &[u8],
-    cheque: &[u8],
     out: &mut [u8],
 ) -> Result<(), Refusal>
-    ensures { RestoredAs page forwarded.now notes.now transfer.now cheque.now out.old (restored_in result) out.new }
+    ensures { RestoredAs terms.now.page forwarded.now notes.now terms.now.transfer.now terms.now.cheque.now out.old (restored_in result) out.new }
 {
-    if !charset::is_page(page) {
+    if !charset::is_page(terms.page) {
         return Err(Refusal::NoSuchPage);
     }
     if out.len() < forwarded.len() {
         return Err(Refusal::OutputRoom);
     }
-    if is_yielded(page, forwarded, notes, transfer, cheque) {
+    if is_yielded(terms, forwarded, notes) {
         write(forwarded, notes, out);
         return Ok(());
     }
@@ -170,5 +169,10 @@ pub fn restore(
 ) -> Restored
     ensures { RestoredAs page forwarded.now notes.now transfer.now cheque.now out.old result out.new }
 {
-    Restored::from(give_back(page, forwarded, notes, transfer, cheque, out))
+    let terms = Terms {
+        page,
+        transfer,
+        cheque,
+    };
+    Restored::from(give_back(&terms, forwarded, notes, out))
 }

@@ -17,7 +17,7 @@ returns-in_err-changes-in-Ok c =
     let found = c.in-Ok.ensures.answer in
     let sent = c.in_err-changes-in-Ok.ensures in
     rw (told.1, told.2)
-    (default_not_sent a.page a.file.now a.transfer.now a.cheque.now a.out.now a.notes.now a.list.now c.is_page.ensures
+    (default_not_sent a.terms.now.page a.file.now a.terms.now.transfer.now a.terms.now.cheque.now a.out.now a.notes.now a.list.now c.is_page.ensures
     c.in_err-changes-in-Ok.field-0.0 c.if-not-is_page.false found refl sent.answer sent.real)
 
 pub returns-in_ok-changes-in-Ok : goal.returns-in_ok-changes-in-Ok
@@ -25,5 +25,5 @@ returns-in_ok-changes-in-Ok c =
     let a = c.args in
     let found = c.in-Ok.ensures.answer in
     let sent = c.in_ok-changes-in-Ok.ensures in
-    default_sound a.page a.file.now a.transfer.now a.cheque.now a.out.now a.notes.now a.list.now c.is_page.ensures c.if-not-is_page.false
+    default_sound a.terms.now.page a.file.now a.terms.now.transfer.now a.terms.now.cheque.now a.out.now a.notes.now a.list.now c.is_page.ensures c.if-not-is_page.false
     found refl sent.answer c.whole.ensures

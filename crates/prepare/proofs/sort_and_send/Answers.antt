@@ -12,16 +12,16 @@ pub returns-in_err-room_missing : goal.returns-in_err-room_missing
 returns-in_err-room_missing c =
     let a = c.args in
     let found = c.in_ok-going.ensures.answer in
-    search (rules, default_short a.page a.file.now a.transfer.now a.cheque.now a.out.now a.notes.now a.list.now found refl)
+    search (rules, default_short a.terms.now.page a.file.now a.terms.now.transfer.now a.terms.now.cheque.now a.out.now a.notes.now a.list.now found refl)
 
-pub send_kept-requires : goal.send_kept-requires
-send_kept-requires c =
+pub file-requires : goal.file-requires
+file-requires c =
     let a = c.args in
     let found = c.in_ok-going.ensures.answer in
-    can_send a.page a.file.now a.transfer.now a.cheque.now a.out.now a.notes.now a.list.now found refl c.in_ok-room_missing.ensures
+    can_send a.terms.now.page a.file.now a.terms.now.transfer.now a.terms.now.cheque.now a.out.now a.notes.now a.list.now found refl c.in_ok-room_missing.ensures
 
 pub returns : goal.returns
 returns c =
     let a = c.args in
     let found = c.in_ok-going.ensures.answer in
-    default_sent a.page a.file.now a.transfer.now a.cheque.now a.out.now a.notes.now a.list.now found refl c.in_ok-room_missing.ensures c.send_kept.ensures
+    default_sent a.terms.now.page a.file.now a.terms.now.transfer.now a.terms.now.cheque.now a.out.now a.notes.now a.list.now found refl c.in_ok-room_missing.ensures c.file.ensures
