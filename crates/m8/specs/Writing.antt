@@ -39,10 +39,6 @@ Left n at out = (at + n ≤ length out) × (at + n ≤ 1239876)
 pub stretched : (w : ℕ) (ys out : List ℕ) (at : ℕ) → length ys ≡ w → Noted ys at out (back_as at (at + w) ys out) (at + w)
 stretched w ys out at l = record { next_is = omega arith; places_are = put_part at (at + w) ys out (omega arith) (omega arith) }
 
-pub appended : (piece out : List ℕ) (at : ℕ) {ys : List ℕ} → Left (length piece) at out
-    → ys ≡ piece → Noted piece at out (back_as at (at + length piece) ys out) (at + length piece)
-appended piece out at l e = noted_is e (stretched (length piece) _ out at (ap length e))
-
 -- the first seven fields, which one function writes
 abbrev pub heading_of : List ℕ → List ℕ
 heading_of q = ascii "DM8" ++ (in_q Q6 q ++ (zeros 3 ++ (in_q Q7 q ++ (zeros 7 ++ spaces 17))))
@@ -141,15 +137,9 @@ module _ (t : List ℕ) (l : length t ≡ 768) {s p : Span} (at : s ≡ t_place 
   line_is : p ≡ line_in
   line_is = first ∙ ap (λ (s : Span). line_of s 1) at
 
-  pub line_inside : (p.start ≤ p.end) × (p.end ≤ length t)
-  line_inside = inside line_is (lit≤ tt, lit≤ tt) l
-
   module _ {line : List ℕ} (found : line ≡ part p t) where
     is : line ≡ part line_in t
     is = found ∙ ap (λ (p : Span). part p t) line_is
 
     pub line_fits : length line ≡ 35
     line_fits = ap length is ∙ line_long t l
-
-    pub referred : (page : ℕ) {d ys : List ℕ} → d ≡ line → ys ≡ text page d → ys ≡ reference_of page t
-    referred page e r = r ∙ ap (text page) (e ∙ is)
