@@ -10,7 +10,7 @@ ghost use Rattle.forwarding.specs.Fields.{field_changes};
 ghost use Rattle.forwarding.specs.Sized.{Sized};
 ghost use Rattle.forwarding.specs.Turns.{turns};
 
-use records::{Q, T, Z};
+use records::{Q, QField, T, Z};
 
 // 1 for a character that is changed. A number, since it is added up, and moves the place of the next note, without jumps.
 pub fn changed(b: u8) -> u8
@@ -41,7 +41,7 @@ pub fn none(s: &[u8]) -> bool
 pub fn q_record(rec: &[u8; 256]) -> usize
     ensures { result ≡ field_changes q_texts rec.now }
 {
-    field(records::part(rec, Q::text(1)))
+    field(records::bytes(rec, QField::Q5))
 }
 
 pub fn t_record(rec: &[u8; 768]) -> usize

@@ -2,12 +2,12 @@
 // first, the longest file, and what comes after the end.
 #![tactic(auto)]
 
+use drafts::{LIST, NUMBER};
 use reader::Reader;
+use std::fmt::Display;
 use std::io;
 
-// The list of the payments' country, and one in which it is not.
-const LIST: [u8; 2] = *b"US";
-
+// A list in which the payments' country is not.
 const OTHER: [u8; 2] = *b"GB";
 
 fn fed(r: Reader, cut: &[u8]) -> Reader {
@@ -15,181 +15,141 @@ fn fed(r: Reader, cut: &[u8]) -> Reader {
 }
 
 // A line: what the end answers. The reader is given back.
-fn ends(rt: &impl Print, edge: &[u8], r: Reader, taken: &[u64]) -> io::Result<Reader> {
+fn ends(
+    rt: &impl Print,
+    edge: impl Display + Drop,
+    r: Reader,
+    taken: &[u64],
+) -> io::Result<Reader> {
     let read = r.end(taken);
     let answer = read.answer;
     let v = answer.verdict;
-    drafts::say_answer(rt, edge, v.number, v.rec)?;
-    drafts::say_number(rt, b", place ", v.at as u64)?;
-    drafts::say_number(rt, b", changes ", answer.changes as u64)?;
-    drafts::say(rt, b"\n")?;
+    println!(rt;
+        "{edge}: {} at {}, place {}, changes {}",
+        v.number, v.rec, v.at, answer.changes
+    )?;
     Ok(read.reader)
 }
 
-// The file up to a place.
-fn fed_to(r: Reader, file: &[u8], at: usize) -> Reader {
-    if file.len() < at {
-        return r;
-    }
-    fed(r, &file[..at])
-}
-
 // A file in two cuts, the second one with a list of its own.
-fn cut_at(rt: &impl Print, edge: &[u8], file: &[u8], at: usize, list: &[u8]) -> io::Result<()> {
-    if file.len() < at {
-        return Ok(());
-    }
-    let first = fed_to(Reader::new(0), file, at);
-    drafts::say(rt, edge)?;
-    drafts::say_number(rt, b" cut at ", at as u64)?;
-    ends(rt, b"", first.feed(&file[at..], list, list), &[])?;
+fn cut_in_two(
+    rt: &impl Print,
+    edge: &str,
+    first: &[u8],
+    second: &[u8],
+    list: &[u8],
+) -> io::Result<()> {
+    let r = fed(Reader::new(0), first).feed(second, list, list);
+    ends(rt, format_args!("{edge}, cut at {}", first.len()), r, &[])?;
     Ok(())
 }
 
-// Before the last byte of a record, behind it, and behind the first byte of the next.
-fn cut_around(rt: &impl Print, file: &[u8], last: usize) -> io::Result<()> {
-    if last < 10000 {
-        cut_at(rt, b"one list,", file, last, &LIST)?;
-        cut_at(rt, b"one list,", file, last + 1, &LIST)?;
-        cut_at(rt, b"one list,", file, last + 2, &LIST)?;
+// Before the last byte of a record, behind it, and behind the first byte of the next, which Z has none.
+fn one_list(rt: &impl Print, file: &[u8; 2048]) -> io::Result<()> {
+    for at in [
+        255, 256, 257, 1023, 1024, 1025, 1791, 1792, 1793, 2047, 2048,
+    ] {
+        cut_in_two(rt, "one list", &file[..at], &file[at..], &LIST)?;
+    }
+    Ok(())
+}
+
+fn another_list(rt: &impl Print, file: &[u8; 2048]) -> io::Result<()> {
+    for at in [1023, 1024, 1791, 1792] {
+        cut_in_two(
+            rt,
+            "another list in the second",
+            &file[..at],
+            &file[at..],
+            &OTHER,
+        )?;
     }
     Ok(())
 }
 
 fn one_byte_at_a_time(rt: &impl Print, file: &[u8]) -> io::Result<()> {
     let mut r = Reader::new(0);
-    let mut i = 0;
-    while i < file.len() {
-        r = fed(r, &[file[i]]);
-        i += 1;
+    for cut in file.chunks(1) {
+        r = fed(r, cut);
     }
-    ends(rt, b"one byte at a time", r, &[])?;
+    ends(rt, "one byte at a time", r, &[])?;
     Ok(())
 }
 
-fn places_of_a_cut(rt: &impl Print, file: &[u8]) -> io::Result<()> {
-    ends(rt, b"no cut at all", Reader::new(0), &[])?;
-    ends(rt, b"an empty cut", fed(Reader::new(0), &[]), &[])?;
-    cut_around(rt, file, 255)?;
-    cut_around(rt, file, 1023)?;
-    cut_around(rt, file, 1791)?;
-    cut_at(rt, b"one list,", file, 2047, &LIST)?;
-    cut_at(rt, b"one list,", file, 2048, &LIST)?;
+fn places_of_a_cut(rt: &impl Print, file: &[u8; 2048]) -> io::Result<()> {
+    ends(rt, "no cut at all", Reader::new(0), &[])?;
+    ends(rt, "an empty cut", fed(Reader::new(0), &[]), &[])?;
+    one_list(rt, file)?;
     one_byte_at_a_time(rt, file)?;
-    cut_at(rt, b"another list in the second,", file, 1023, &OTHER)?;
-    cut_at(rt, b"another list in the second,", file, 1024, &OTHER)?;
-    cut_at(rt, b"another list in the second,", file, 1791, &OTHER)?;
-    cut_at(rt, b"another list in the second,", file, 1792, &OTHER)
+    another_list(rt, file)
 }
 
 // A file whose first payee is blank, whole and then without its last byte.
-fn told_first(rt: &impl Print, file: &[u8]) -> io::Result<()> {
-    ends(rt, b"a blank payee", fed(Reader::new(0), file), &[])?;
+fn told_first(rt: &impl Print, file: &[u8; 2048]) -> io::Result<()> {
+    ends(rt, "a blank payee", fed(Reader::new(0), file), &[])?;
     ends(
         rt,
-        b"a blank payee, and Z one short",
-        fed_to(Reader::new(0), file, 2047),
+        "a blank payee, and Z one short",
+        fed(Reader::new(0), &file[..2047]),
         &[],
     )?;
     Ok(())
 }
 
-// Q, so many payments, each a cut, and the rest.
-fn many(page: u32, q: &[u8], payment: &[u8], n: usize, rest: &[u8]) -> Reader {
+// Q, so many payments of 1,00, each a cut, and the rest.
+fn many(page: u32, q: &[u8], n: usize, rest: &[u8]) -> Reader {
+    let payment = drafts::payment(b"MARIA EXAMPLE", 1, 0);
     let mut r = fed(Reader::new(page), q);
-    let mut k = 0;
-    while k < n {
-        r = fed(r, payment);
-        k += 1;
+    for _ in 0..n {
+        r = fed(r, &payment);
     }
     fed(r, rest)
 }
 
-fn the_longest(
-    rt: &impl Print,
-    q: &[u8],
-    blank: &[u8],
-    payment: &[u8],
-    z: &[u8],
-    longer: &[u8],
-) -> io::Result<()> {
-    ends(rt, b"9999 payments", many(0, q, payment, 9999, z), &[])?;
+// 9,999 payments, and what makes the file too long.
+fn longest_file(rt: &impl Print) -> io::Result<()> {
+    let q = drafts::q();
+    let z = drafts::z(9999, 9999);
+    let mut longer = [b' '; 257];
+    drafts::put(&mut longer, 0, &z);
+    ends(rt, "9999 payments", many(0, &q, 9999, &z), &[])?;
     ends(
         rt,
-        b"9999 payments and one byte",
-        many(0, q, payment, 9999, longer),
+        "9999 payments and one byte",
+        many(0, &q, 9999, &longer),
         &[],
     )?;
-    ends(rt, b"10000 payments", many(0, q, payment, 10000, z), &[])?;
+    ends(rt, "10000 payments", many(0, &q, 10000, &z), &[])?;
+    let no_q = many(0, &[b' '; 256], 9999, &longer);
+    ends(rt, "no Q, 9999 payments and one byte", no_q, &[])?;
     ends(
         rt,
-        b"no Q, 9999 payments and one byte",
-        many(0, blank, payment, 9999, longer),
-        &[],
-    )?;
-    ends(
-        rt,
-        b"page 2, 9999 payments and one byte",
-        many(2, q, payment, 9999, longer),
+        "page 2, 9999 payments and one byte",
+        many(2, &q, 9999, &longer),
         &[],
     )?;
     Ok(())
 }
 
-// 9,999 payments of 1,00, and what makes the file too long.
-fn longest_file(rt: &impl Print) -> io::Result<()> {
-    let q = drafts::q();
-    let payment = drafts::payment(b"MARIA EXAMPLE", 1, 0);
-    let z = drafts::z(9999, 9999);
-    let mut longer = [32u8; 257];
-    drafts::put(&mut longer, 0, &z);
-    the_longest(rt, &q, &[32u8; 256], &payment, &z, &longer)
-}
-
 // The first end decides, whatever numbers are lent to a later one.
-fn asked_again(
-    rt: &impl Print,
-    edge: &[u8],
-    again: &[u8],
-    file: &[u8],
-    taken: &[u64],
-    other: &[u64],
-) -> io::Result<()> {
-    let r = ends(rt, edge, fed(Reader::new(0), file), taken)?;
-    ends(rt, again, r, other)?;
+fn asked_again(rt: &impl Print, file: &[u8]) -> io::Result<()> {
+    let r = ends(rt, "a taken number", fed(Reader::new(0), file), &[NUMBER])?;
+    ends(rt, "  asked again, not taken", r, &[])?;
+    let r = ends(rt, "no taken number", fed(Reader::new(0), file), &[])?;
+    ends(rt, "  asked again, taken", r, &[NUMBER])?;
     Ok(())
 }
 
 // And what comes after it changes nothing.
-fn after_the_end(rt: &impl Print, file: &[u8]) -> io::Result<()> {
+fn after_the_end(rt: &impl Print, file: &[u8; 2048]) -> io::Result<()> {
     let r = ends(
         rt,
-        b"one byte short",
-        fed_to(Reader::new(0), file, 2047),
+        "one byte short",
+        fed(Reader::new(0), &file[..2047]),
         &[],
     )?;
-    ends(rt, b"  that byte after the end", fed(r, b" "), &[])?;
+    ends(rt, "  that byte after the end", fed(r, &file[2047..]), &[])?;
     Ok(())
-}
-
-fn the_end(rt: &impl Print, file: &[u8]) -> io::Result<()> {
-    asked_again(
-        rt,
-        b"a taken number",
-        b"  asked again, not taken",
-        file,
-        &[1224022907],
-        &[],
-    )?;
-    asked_again(
-        rt,
-        b"no taken number",
-        b"  asked again, taken",
-        file,
-        &[],
-        &[1224022907],
-    )?;
-    after_the_end(rt, file)
 }
 
 fn main(rt: HostRuntime) -> io::Result<()> {
@@ -198,5 +158,6 @@ fn main(rt: HostRuntime) -> io::Result<()> {
     places_of_a_cut(&rt, &file)?;
     told_first(&rt, &blank)?;
     longest_file(&rt)?;
-    the_end(&rt, &file)
+    asked_again(&rt, &file)?;
+    after_the_end(&rt, &file)
 }

@@ -80,18 +80,14 @@ fn read_input(input: &mut impl Read, room: &mut [u8]) -> Input
     }
 }
 
-fn print_line(rt: &impl Print, name: &str, n: u64) -> io::Result<()> {
-    println!(rt; "{name}={n}")
-}
-
 fn print_report(rt: &impl Print, r: Report) -> io::Result<()> {
-    print_line(rt, "verdict", r.verdict as u64)?;
-    print_line(rt, "record", r.rec as u64)?;
-    print_line(rt, "at", r.at as u64)?;
-    print_line(rt, "payments", r.payments as u64)?;
-    print_line(rt, "euros", r.euros)?;
-    print_line(rt, "cents", r.cents)?;
-    print_line(rt, "changes", r.changes as u64)
+    println!(rt; "verdict={}", r.verdict)?;
+    println!(rt; "record={}", r.rec)?;
+    println!(rt; "at={}", r.at)?;
+    println!(rt; "payments={}", r.payments)?;
+    println!(rt; "euros={}", r.euros)?;
+    println!(rt; "cents={}", r.cents)?;
+    println!(rt; "changes={}", r.changes)
 }
 
 fn main(rt: HostRuntime) -> io::Result<ExitCode> {

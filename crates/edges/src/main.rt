@@ -3,128 +3,114 @@
 // payments that come back (A5, A6) in the crate returns.
 #![tactic(auto)]
 
-use drafts::{say, say_answer, say_number, tell, tell_whether};
+use drafts::{
+    LIST, NOTE_PATTERN, NUMBER, PATTERN, notes_untouched, put, tell, tell_whether, untouched,
+};
+use std::fmt::Display;
 use std::io;
 
 mod pages;
 mod places;
 
-const LIST: [u8; 2] = *b"US";
-
-const PATTERN: u8 = 170;
-
-const NOTE_PATTERN: u32 = 4022250974;
-
 // The note of document 01's example. The byte 5 higher is the plus sign, which the table keeps.
 const NOTE: u32 = 316198;
+
+const BLANK_LINE: [u8; 35] = [b' '; 35];
 
 // A line: the edge, its number and record, and the place in the record, which the judge tells.
 fn tell_place(
     rt: &impl Print,
-    edge: &[u8],
+    edge: impl Display + Drop,
     number: usize,
     rec: usize,
     at: usize,
 ) -> io::Result<()> {
-    say_answer(rt, edge, number, rec)?;
-    say_number(rt, b", place ", at as u64)?;
-    say(rt, b"\n")
+    println!(rt; "{edge}: {number} at {rec}, place {at}")
 }
 
-fn judge_on(rt: &impl Print, page: u32, edge: &[u8], file: &[u8], taken: &[u64]) -> io::Result<()> {
+fn judge_on(
+    rt: &impl Print,
+    page: u32,
+    edge: impl Display + Drop,
+    file: &[u8],
+    taken: &[u64],
+) -> io::Result<()> {
     let v = judge::judge(page, file, &LIST, &LIST, taken);
     tell_place(rt, edge, v.number, v.rec, v.at)
 }
 
-fn judge(rt: &impl Print, edge: &[u8], file: &[u8], taken: &[u64]) -> io::Result<()> {
+fn judge(rt: &impl Print, edge: impl Display + Drop, file: &[u8], taken: &[u64]) -> io::Result<()> {
     judge_on(rt, 0, edge, file, taken)
-}
-
-// The same of a file that was changed at a byte, which is told too.
-fn judge_at(rt: &impl Print, edge: &[u8], how: &[u8], byte: usize, file: &[u8]) -> io::Result<()> {
-    say(rt, edge)?;
-    say_number(rt, how, byte as u64)?;
-    judge(rt, b"", file, &[])
 }
 
 fn bytes_after_z(rt: &impl Print) -> io::Result<()> {
     let file = drafts::example(b"ANNA BEISPIEL", b"M&M STUDIO");
-    let mut longer = [32u8; 2049];
-    drafts::put(&mut longer, 0, &file);
-    judge(rt, b"no byte after Z", &longer[0..2048], &[])?;
-    judge(rt, b"one byte after Z", &longer, &[])
+    let mut longer = [b' '; 2049];
+    put(&mut longer, 0, &file);
+    // 0..: at ..2048 the prover does not see that it ends within the array
+    judge(rt, "no byte after Z", &longer[0..2048], &[])?;
+    judge(rt, "one byte after Z", &longer, &[])
 }
 
-// What the program prints of files of 84 and of 85 payments of 1,00.
-fn in_the_program(rt: &impl Print) -> io::Result<()> {
-    let mut most = [32u8; 65024];
+// What the program prints of a file.
+fn in_the_program(rt: &impl Print, edge: &str, file: &[u8]) -> io::Result<()> {
+    let r = report::tell(report::read_on(report::start(), file));
+    tell_place(rt, edge, r.verdict, r.rec, r.at)
+}
+
+// Files of 84 and of 85 payments of 1,00.
+fn longer_than_a_read(rt: &impl Print) -> io::Result<()> {
+    let mut most = [b' '; 65024];
     drafts::many(&mut most, 83, 1, 1, 84, 84);
-    let r = report::tell(report::read_on(report::start(), &most));
-    tell_place(rt, b"84 T records in the program", r.verdict, r.rec, r.at)?;
-    let mut more = [32u8; 65792];
+    in_the_program(rt, "84 T records in the program", &most)?;
+    let mut more = [b' '; 65792];
     drafts::many(&mut more, 84, 1, 1, 85, 85);
-    let s = report::tell(report::read_on(report::start(), &more));
-    tell_place(rt, b"85 T records in the program", s.verdict, s.rec, s.at)
+    in_the_program(rt, "85 T records in the program", &more)
 }
 
 fn taken_numbers(rt: &impl Print) -> io::Result<()> {
     let file = drafts::example(b"ANNA BEISPIEL", b"M&M STUDIO");
-    judge(rt, b"number not taken", &file, &[1224022906, 1224022908])?;
+    judge(rt, "number not taken", &file, &[NUMBER - 1, NUMBER + 1])?;
     judge(
         rt,
-        b"number twice in the taken list",
+        "number twice in the taken list",
         &file,
-        &[1224022907, 1224022907],
+        &[NUMBER, NUMBER],
     )
 }
 
 // Eleven payments, ten of 99,999,999,999,999.
-fn sum(rt: &impl Print, edge: &[u8], last: u64, z3: u64) -> io::Result<()> {
-    let mut file = [32u8; 8960];
+fn sum(rt: &impl Print, edge: &str, last: u64, z3: u64) -> io::Result<()> {
+    let mut file = [b' '; 8960];
     drafts::many(&mut file, 10, 99999999999999, last, z3, 11);
     judge(rt, edge, &file, &[])
 }
 
-fn patterned(notes: &[u32]) -> bool {
-    let mut kept = true;
-    let mut i = 0;
-    while i < notes.len() {
-        kept = kept & (notes[i] == NOTE_PATTERN);
-        i += 1;
-    }
-    kept
-}
-
-// A call that is refused: output and note places come with a pattern, and the output's is given besides.
+// A call that is refused. Output and note places come with their pattern.
 fn refused(
     rt: &impl Print,
     page: u32,
-    edge: &[u8],
+    edge: impl Display + Drop,
     file: &[u8],
     out: &mut [u8],
-    pattern: &[u8],
     notes: &mut [u32],
 ) -> io::Result<()> {
     let p = prepare::strict(page, file, &LIST, &LIST, out, notes);
     tell(rt, edge, p.number, p.rec)?;
-    tell_whether(rt, b"  output untouched", fields::same(out, pattern))?;
-    tell_whether(rt, b"  note places untouched", patterned(notes))
+    tell_whether(rt, "  output untouched", untouched(out))?;
+    tell_whether(rt, "  note places untouched", notes_untouched(notes))
 }
 
 fn ample(rt: &impl Print, file: &[u8]) -> io::Result<()> {
     let mut out = [PATTERN; 2050];
     let mut notes = [NOTE_PATTERN; 3];
     let p = prepare::strict(0, file, &LIST, &LIST, &mut out, &mut notes);
-    tell(rt, b"ample room", p.number, p.rec)?;
+    tell(rt, "ample room", p.number, p.rec)?;
+    tell_whether(rt, "  output behind untouched", untouched(&out[2048..]))?;
     tell_whether(
         rt,
-        b"  output behind untouched",
-        (out[2048] == PATTERN) & (out[2049] == PATTERN),
-    )?;
-    tell_whether(
-        rt,
-        b"  note places behind untouched",
-        notes[2] == NOTE_PATTERN,
+        "  note places behind untouched",
+        notes_untouched(&notes[2..]),
     )
 }
 
@@ -132,15 +118,10 @@ fn exact(rt: &impl Print, file: &[u8]) -> io::Result<()> {
     let mut out = [PATTERN; 2048];
     let mut notes = [NOTE_PATTERN; 2];
     let p = prepare::strict(0, file, &LIST, &LIST, &mut out, &mut notes);
-    tell(rt, b"exact room", p.number, p.rec)?;
-    restore(rt, b"two notes, rising places", &out, &notes, file)?;
-    restore(
-        rt,
-        b"two notes, falling places",
-        &out,
-        &[notes[1], notes[0]],
-        file,
-    )
+    tell(rt, "exact room", p.number, p.rec)?;
+    restore(rt, "two notes, rising places", &out, &notes, file)?;
+    notes.reverse();
+    restore(rt, "two notes, falling places", &out, &notes, file)
 }
 
 // A file of 2048 bytes with two changes, and one that is not sound.
@@ -148,28 +129,25 @@ fn short(rt: &impl Print, file: &[u8], blank: &[u8]) -> io::Result<()> {
     refused(
         rt,
         0,
-        b"output room one short",
+        "output room one short",
         file,
         &mut [PATTERN; 2047],
-        &[PATTERN; 2047],
         &mut [NOTE_PATTERN; 2],
     )?;
     refused(
         rt,
         0,
-        b"note room one short",
+        "note room one short",
         file,
         &mut [PATTERN; 2048],
-        &[PATTERN; 2048],
         &mut [NOTE_PATTERN; 1],
     )?;
     refused(
         rt,
         0,
-        b"payee of 35 equals signs",
+        "payee of 35 equals signs",
         blank,
         &mut [PATTERN; 2048],
-        &[PATTERN; 2048],
         &mut [NOTE_PATTERN; 2],
     )
 }
@@ -186,68 +164,62 @@ fn prepare_edges(rt: &impl Print) -> io::Result<()> {
 // Restored into patterned room: whether the very file came back, or nothing was written.
 fn restore(
     rt: &impl Print,
-    edge: &[u8],
+    edge: &str,
     forwarded: &[u8],
     notes: &[u32],
     file: &[u8],
 ) -> io::Result<()> {
     let mut out = [PATTERN; 2048];
     let r = restore::restore(0, forwarded, notes, &LIST, &LIST, &mut out);
-    let number = r.number;
-    tell(rt, edge, number, r.rec)?;
-    if number == 0 {
-        return tell_whether(rt, b"  the very file is back", fields::same(&out, file));
+    tell(rt, edge, r.number, r.rec)?;
+    if r.number == 0 {
+        return tell_whether(rt, "  the very file is back", out.as_slice() == file);
     }
-    tell_whether(
-        rt,
-        b"  output untouched",
-        fields::same(&out, &[PATTERN; 2048]),
-    )
+    tell_whether(rt, "  output untouched", untouched(&out))
 }
 
 // Document 01's example: what the judge and prepare answer of it.
 fn example(rt: &impl Print, file: &[u8], out: &mut [u8]) -> io::Result<()> {
     let v = judge::judge(0, file, &LIST, &LIST, &[]);
-    tell_place(rt, b"120,50 and 79,75", v.number, v.rec, v.at)?;
-    say_number(rt, b"  payments ", v.payments as u64)?;
-    say_number(rt, b", euros ", v.euros)?;
-    say_number(rt, b", cents ", v.cents)?;
+    tell_place(rt, "120,50 and 79,75", v.number, v.rec, v.at)?;
     let mut notes = [NOTE_PATTERN; 2];
     let p = prepare::strict(0, file, &LIST, &LIST, out, &mut notes);
-    say_number(rt, b", notes ", p.notes as u64)?;
-    say(rt, b"\n")?;
-    tell_whether(rt, b"  its note is 316198", notes[0] == NOTE)
+    println!(rt;
+        "  payments {}, euros {}, cents {}, notes {}",
+        v.payments, v.euros, v.cents, p.notes
+    )?;
+    tell_whether(rt, "  its note is 316198", notes[0] == NOTE)
 }
 
 fn restore_edges(rt: &impl Print) -> io::Result<()> {
     let file = drafts::example(b"ANNA BEISPIEL", b"M&M STUDIO");
     let mut out = [PATTERN; 2048];
     example(rt, &file, &mut out)?;
-    tell_whether(rt, b"  forwarded with a plus sign there", out[1235] == 43)?;
-    restore(rt, b"its note", &out, &[NOTE], &file)?;
+    tell_whether(rt, "  forwarded with a plus sign there", out[1235] == b'+')?;
+    restore(rt, "its note", &out, &[NOTE], &file)?;
     restore(
         rt,
-        b"a note of an unreplaced character",
+        "a note of an unreplaced character",
         &out,
         &[NOTE + 5],
         &file,
     )?;
-    restore(rt, b"two notes at one place", &out, &[NOTE, NOTE], &file)?;
-    restore(rt, b"no notes", &out, &[], &out)
+    restore(rt, "two notes at one place", &out, &[NOTE, NOTE], &file)?;
+    restore(rt, "no notes", &out, &[], &out)
 }
 
 fn main(rt: HostRuntime) -> io::Result<()> {
     bytes_after_z(&rt)?;
-    in_the_program(&rt)?;
+    longer_than_a_read(&rt)?;
     taken_numbers(&rt)?;
-    sum(&rt, b"T14a sum 999999999999999", 9, 999999999999999)?;
+    sum(&rt, "T14a sum 999999999999999", 9, 999999999999999)?;
     sum(
         &rt,
-        b"T14a sum 1000000000000000, Z3 all nines",
+        "T14a sum 1000000000000000, Z3 all nines",
         10,
         999999999999999,
     )?;
-    sum(&rt, b"T14a sum 1000000000000000, Z3 all zeros", 10, 0)?;
+    sum(&rt, "T14a sum 1000000000000000, Z3 all zeros", 10, 0)?;
     prepare_edges(&rt)?;
     restore_edges(&rt)?;
     places::edges(&rt)?;

@@ -12,6 +12,7 @@ ghost use Rattle.judge.specs.Sums.{euros, cents, euro_sum, cent_sum, file_number
 ghost use Rattle.judge.specs.Verdict.{refused, verdict_of, judge_of, JudgedAs};
 ghost use Rattle.judge.specs.declared.Refusal.TheVariants.{Structure, Broken};
 
+use payments::Terms;
 use records::{QField, TField};
 use std::ops::Range;
 use structure::Misfit;
@@ -163,9 +164,7 @@ impl From<Result<Totals, Refusal>> for Verdict {
 // What a rule says of record k, whose bytes are the slot's, in a file with so many payments.
 #[tactic(auto, unfolding(crate::specs::Run::slot_fault))]
 fn fault(
-    page: u32,
-    transfer: &[u8],
-    cheque: &[u8],
+    terms: &Terms<'_>,
     key: &[u8; 21],
     payments: usize,
     euros: u64,
@@ -174,14 +173,14 @@ fn fault(
     rule: usize,
 ) -> Option<usize>
     requires { length slot.now ≡ length_at payments k }
-    ensures { result ≡ nonzero (slot_fault page transfer.now cheque.now key.now payments euros slot.now k rule) }
+    ensures { result ≡ nonzero (slot_fault terms.now.page terms.now.transfer.now terms.now.cheque.now key.now payments euros slot.now k rule) }
 {
     if k == 0 {
-        return rules::q::fault(page, slot.as_array::<256>().unwrap(), rule);
+        return rules::q::fault(terms.page, slot.as_array::<256>().unwrap(), rule);
     }
     if k <= payments {
         let t = slot.as_array::<768>().unwrap();
-        return payments::fault(page, transfer, cheque, key, t, rule);
+        return payments::fault(terms, key, t, rule);
     }
     let z = slot.as_array::<256>().unwrap();
     rules::z::fault(payments as u64, euros, z, rule)
@@ -211,9 +210,7 @@ fn slot_in(bytes: &[u8], skip: usize, k: usize) -> &[u8]
 
 // The first broken rule of a run of records ends the judgement there.
 pub fn run(
-    page: u32,
-    transfer: &[u8],
-    cheque: &[u8],
+    terms: &Terms<'_>,
     key: &[u8; 21],
     payments: usize,
     euros: u64,
@@ -223,14 +220,14 @@ pub fn run(
     to: usize,
 ) -> Option<Breach>
     requires { Lies bytes.now skip payments from to }
-    ensures { result ≡ broken (first_in (run_fault page transfer.now cheque.now key.now payments euros bytes.now skip) (rule_from payments) (rule_end payments) from to) }
+    ensures { result ≡ broken (first_in (run_fault terms.now.page terms.now.transfer.now terms.now.cheque.now key.now payments euros bytes.now skip) (rule_from payments) (rule_end payments) from to) }
 {
     let mut found = None;
     'records: for k in from..to {
         let slot = slot_in(bytes, skip, k);
         let rules = rules_of(payments, k);
         for rule in rules.start..rules.end {
-            if let Some(at) = fault(page, transfer, cheque, key, payments, euros, slot, k, rule) {
+            if let Some(at) = fault(terms, key, payments, euros, slot, k, rule) {
                 found = Some(Breach {
                     number: rule,
                     rec: k,
@@ -245,19 +242,12 @@ pub fn run(
 
 // All records of a file with n T records.
 #[tactic(auto, using(crate::specs::Run::content_in_file, crate::specs::Found::failed, crate::specs::Found::passed))]
-pub fn content(
-    page: u32,
-    file: &[u8],
-    n: usize,
-    euros: u64,
-    transfer: &[u8],
-    cheque: &[u8],
-) -> Result<(), Breach>
+pub fn content(terms: &Terms<'_>, file: &[u8], n: usize, euros: u64) -> Result<(), Breach>
     requires { (length file.now ≡ 512 + 768 * n) × ((1 ≤ n) × (n ≤ 9999)) }
-    ensures { result ≡ unbroken (content_of page file.now n euros transfer.now cheque.now) }
+    ensures { result ≡ unbroken (content_of terms.now.page file.now n euros terms.now.transfer.now terms.now.cheque.now) }
 {
     let key = payments::key(structure::whole(file, 1));
-    match run(page, transfer, cheque, key, n, euros, file, 0, 0, n + 2) {
+    match run(terms, key, n, euros, file, 0, 0, n + 2) {
         Some(breach) => Err(breach),
         None => Ok(()),
     }
@@ -311,31 +301,25 @@ pub fn number_of(q: &[u8; 256]) -> u64
 
 // Structure, then content.
 #[tactic(auto, unfolding(crate::specs::Verdict::verdict_of))]
-pub fn examine(page: u32, file: &[u8], transfer: &[u8], cheque: &[u8]) -> Result<Totals, Refusal>
-    ensures answer { verdict_in result ≡ verdict_of page file.now transfer.now cheque.now }
+pub fn examine(terms: &Terms<'_>, file: &[u8]) -> Result<Totals, Refusal>
+    ensures answer { verdict_in result ≡ verdict_of terms.now.page file.now terms.now.transfer.now terms.now.cheque.now }
     ensures real { IfErr result (λ r. number_of r ≡ 0 → ⊥) }
 {
     let n = structure::walk(file)?;
     let totals = sum(file, n);
-    content(page, file, n, totals.euros, transfer, cheque)?;
+    content(terms, file, n, totals.euros)?;
     Ok(totals)
 }
 
 // A page that does not exist is 7, before anything is read; then the verdict, and then the taken numbers.
 #[tactic(auto, unfolding(crate::specs::Verdict::judge_of))]
-fn with_taken(
-    page: u32,
-    file: &[u8],
-    transfer: &[u8],
-    cheque: &[u8],
-    taken: &[u64],
-) -> Result<Totals, Refusal>
-    ensures { verdict_in result ≡ judge_of page file.now transfer.now cheque.now taken.now }
+fn with_taken(terms: &Terms<'_>, file: &[u8], taken: &[u64]) -> Result<Totals, Refusal>
+    ensures { verdict_in result ≡ judge_of terms.now.page file.now terms.now.transfer.now terms.now.cheque.now taken.now }
 {
-    if !charset::is_page(page) {
+    if !charset::is_page(terms.page) {
         return Err(Refusal::NoSuchPage);
     }
-    let totals = examine(page, file, transfer, cheque)?;
+    let totals = examine(terms, file)?;
     if fields::taken(taken, number_of(structure::whole(file, 0))) {
         return Err(Refusal::Taken);
     }
@@ -346,5 +330,10 @@ fn with_taken(
 pub fn judge(page: u32, file: &[u8], transfer: &[u8], cheque: &[u8], taken: &[u64]) -> Verdict
     ensures { JudgedAs page file.now transfer.now cheque.now taken.now result }
 {
-    Verdict::from(with_taken(page, file, transfer, cheque, taken))
+    let terms = Terms {
+        page,
+        transfer,
+        cheque,
+    };
+    Verdict::from(with_taken(&terms, file, taken))
 }

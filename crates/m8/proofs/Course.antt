@@ -1,21 +1,24 @@
 -- Going over the payments of a file that fits: the records of the first of them are written.
-use Rattle.std.specs.Prelude.{ℕ, ◌+◌, ◌*◌, ◌-◌, ◌≤◌, ◌<◌, ◌≡◌, Bool, cond, List, [], ◌∷◌, eqb, length}
+use Rattle.std.specs.Prelude.{ℕ, ◌+◌, ◌*◌, ◌-◌, ◌≤◌, ◌<◌, ◌≡◌, List, ◌∷◌, length, Some, None, refl}
 use Rattle.std.proofs.Math.Path.{sym}
-use Rattle.std.proofs.Common.{ap, ◌∙◌, arith, ne_eqb, length-append}
+use Rattle.std.proofs.Common.{ap, ◌∙◌, arith, length-append}
+use Rattle.laws.specs.Choice.{on_eq, off_eq}
+use Rattle.laws.specs.Found.{nonzero, of_none, of_some, of_some_ne}
 use Rattle.structure.specs.Slots.{slot_at}
 use Rattle.structure.specs.Walk.{structure_of}
 use Rattle.structure.specs.Shape.{Fits}
 use Rattle.judge.specs.Apart.{slots_from}
-use Rattle.forwarding.specs.Noted.{Noted, noted_is, noted_length, noted_append}
+use Rattle.forwarding.specs.Noted.{Noted, noted_none, noted_is, noted_length, noted_append}
 use Rattle.sorting.specs.Kept.{t_records, rule_in, returned_in}
 use Rattle.sorting.proofs.Sound.{first_below, first_above}
 use Rattle.sorting.specs.Lists.{counts_add}
-use Rattle.sorting.specs.Frame.{fit, records_are, records_count, lengths, behind, records_split, records_upto, records_more}
+use Rattle.sorting.specs.Frame.{fit, t_found, records_are, records_count, lengths, behind, records_split, records_upto, records_more}
 use Rattle.payments.specs.Rules.{key_of}
 use Rattle.m8.specs.Record.{m8_of, code_of}
 use Rattle.m8.specs.Filed.{record_in, records_of}
 use Rattle.m8.proofs.Writing.{m8_long}
-use Rattle.m8.specs.Course.{Asked, Room, FiledSoFar, code_long, one, ones, flat, ones_append, ones_more, ones_long}
+use Rattle.m8.specs.Writing.{Left}
+use Rattle.m8.specs.Course.{Room, FiledSoFar, code_long, one, ones, flat, ones_append, ones_more, ones_long}
 
 -- of a file that fits, with n T records
 module _ (page : ℕ) (file transfer cheque codes : List ℕ) (n : ℕ) (e : structure_of file ≡ Fits n) where
@@ -50,7 +53,7 @@ module _ (page : ℕ) (file transfer cheque codes : List ℕ) (n : ℕ) (e : str
       pub same_room : k ≤ n → length out' ≡ length out
       same_room l = noted_length h (fits l)
 
-      module _ (l : k < n) (first : ℕ) (asked : first ≡ rule (slot_at file (k + 1))) where
+      module _ (l : k < n) where
         abbrev t : List ℕ
         t = slot_at file (k + 1)
 
@@ -58,25 +61,41 @@ module _ (page : ℕ) (file transfer cheque codes : List ℕ) (n : ℕ) (e : str
         turn_long =
             let us = slots_from file 1 k in
             let vs = behind file n e k in
-            omega (arith, ap (λ (ts : List (List ℕ)). length (ones rule R ts)) (records_split file n e k l), ap length (ones_append rule R us (t ∷ vs)), length-append (ones rule R us) (ones rule R (t ∷ vs)), length-append (one rule R t) (ones rule R vs), all_long)
+            omega (
+              arith,
+              ap (λ (ts : List (List ℕ)). length (ones rule R ts)) (records_split file n e k l),
+              ap length (ones_append rule R us (t ∷ vs)),
+              length-append (ones rule R us) (ones rule R (t ∷ vs)),
+              length-append (one rule R t) (ones rule R vs),
+              all_long,
+            )
 
-        pub turn_asked : length t ≡ 768 → Asked first codes at out'
-        turn_asked long =
-            record {
-              table = room.table;
-              real =
-                  λ f.
-                  let broken : rule t ≡ 0 → ⊥ = λ z. f (asked ∙ z) in
-                  let whole : length (one rule R t) ≡ 124 = ap (λ (b : Bool). length (cond b [] (R t))) (ne_eqb (rule t) 0 broken) ∙ record_long room.table t long in
-                  (omega (arith, asked, first_above page transfer cheque (key_of (slot_at file 1)) t broken), omega (arith, asked, first_below page transfer cheque (key_of (slot_at file 1)) t), (omega (arith, h.next_is, turn_long, whole, same_room (omega arith), room.bytes), omega (arith, h.next_is, turn_long, whole, few)));
-            }
-
-        pub turn_filed : {at' : ℕ} {out'' : List ℕ} → Noted (cond (eqb first 0) [] (m8_of page (slot_at file 0) (code_of codes first) t)) at out' out'' at'
-            → FiledSoFar page file transfer cheque codes out (k + 1) at' out''
-        turn_filed {at'} {out''} w =
-            let one-is = ap (λ (r : ℕ). cond (eqb r 0) [] (m8_of page (slot_at file 0) (code_of codes r) t)) asked in
+        more : {xs : List ℕ} {at' : ℕ} {out'' : List ℕ} → xs ≡ one rule R t → Noted xs at out' out'' at' → FiledSoFar page file transfer cheque codes out (k + 1) at' out''
+        more is w =
             noted_is (sym (ones_more rule R (slots_from file 1 k) t) ∙ ap (ones rule R) (sym (records_more file n e k)))
-            (noted_append h (noted_is one-is w) (fits (omega arith)))
+            (noted_append h (noted_is is w) (fits (omega arith)))
+
+        -- a payment that breaks no rule
+        pub turn_passed : None ≡ nonzero (rule t) → FiledSoFar page file transfer cheque codes out (k + 1) at out'
+        turn_passed told = more (on_eq _ (of_none told) refl) (noted_none at out')
+
+        -- and one whose first broken rule is this one
+        module _ {first : ℕ} (told : Some first ≡ nonzero (rule t)) where
+          turn_one : R t ≡ one rule R t
+          turn_one = off_eq _ (of_some_ne told) refl
+
+          pub turn_asked : (20 ≤ first) × (first < 36) × Left 124 at out'
+          turn_asked =
+              let whole : length (one rule R t) ≡ 124 = ap length (sym turn_one) ∙ record_long room.table t (t_found file n e (k + 1) (omega arith) (omega arith) refl) in (
+                omega (arith, of_some told, first_above page transfer cheque (key_of (slot_at file 1)) t (of_some_ne told)),
+                omega (arith, of_some told, first_below page transfer cheque (key_of (slot_at file 1)) t),
+                (omega (arith, h.next_is, turn_long, whole, same_room (omega arith), room.bytes), omega (arith, h.next_is, turn_long, whole, few)),
+              )
+
+          pub turn_filed : {at' : ℕ} {out'' : List ℕ} → Noted (m8_of page (slot_at file 0) (code_of codes first) t) at out' out'' at'
+              → FiledSoFar page file transfer cheque codes out (k + 1) at' out''
+          turn_filed w =
+              more (ap (λ (r : ℕ). m8_of page (slot_at file 0) (code_of codes r) t) (of_some told) ∙ turn_one) w
 
       pub turns_end : k ≤ n → n ≤ k → Noted (records_of page file transfer cheque codes) 0 out out' at
       turns_end a b =

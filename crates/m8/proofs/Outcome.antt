@@ -60,13 +60,15 @@ module _ (page : ℕ) (file transfer cheque codes out : List ℕ) {s : Sorted} (
         answered : filed s.payments.returned ≡ filed_of page file transfer cheque codes out
         answered = on_eq _ z (on_eq _ table (off_lt _ room refl)) ∙ by_sorted
 
-        pub payments_fit : (structure_of file ≡ Fits (s.payments.kept + s.payments.returned)) × Room page file transfer cheque codes out
-        payments_fit =
-            (on.1.fits ∙ ap Fits (sym all), record { table = table; bytes = omega (arith, room, returned_is) })
+        -- by the table as the code lends it
+        module _ {table' : List ℕ} (same : table' ≡ codes) where
+          pub payments_fit : ((n : ℕ) × (structure_of file ≡ Fits n)) × Room page file transfer cheque table' out
+          payments_fit = ((on.0, on.1.fits), record { table = ap length same ∙ table; bytes = omega (arith, room, returned_is) })
 
-        pub records_filed : {m : ℕ} {out' : List ℕ} → Noted (records_of page file transfer cheque codes) 0 out out' m
-            → FiledAs page file transfer cheque codes out (filed s.payments.returned) out'
-        records_filed w = record { answer_is = answered; out_is = w.places_are }
+          pub records_filed : {m : ℕ} {out' : List ℕ} → Noted (records_of page file transfer cheque table') 0 out out' m
+              → FiledAs page file transfer cheque codes out (filed s.payments.returned) out'
+          records_filed w =
+              record { answer_is = answered; out_is = w.places_are ∙ ap (λ (t : List ℕ). put 0 (records_of page file transfer cheque t) out) same }
 
         pub none_filed : s.payments.returned ≡ 0 → FiledAs page file transfer cheque codes out (filed s.payments.returned) out
         unfolding records_of

@@ -1,16 +1,19 @@
 // M8 records: one for each payment that comes back, field by field in the order of the receiver's table 15.
 #![tactic(auto)]
 
-ghost use Rattle.std.specs.Prelude.{◌≡◌, cond, [], ◌+◌, ◌*◌, eqb, length};
+ghost use Rattle.std.specs.Prelude.{◌≡◌, ℕ, ◌+◌, ◌*◌, ◌≤◌, ◌<◌, length};
 ghost use Rattle.structure.specs.Walk.{structure_of};
 ghost use Rattle.structure.specs.Shape.{Fits};
 ghost use Rattle.forwarding.specs.Noted.{Noted};
 ghost use Rattle.m8.specs.Record.{amount_of, reference_of, m8_of, code_of};
-ghost use Rattle.m8.specs.Filed.{not_filed, records_of, FiledAs};
+ghost use Rattle.m8.specs.Filed.{records_of, FiledAs};
+ghost use Rattle.m8.specs.Answer.{filed_in};
 ghost use Rattle.m8.specs.Writing.{Left, heading_of};
-ghost use Rattle.m8.specs.Course.{Asked, Room};
+ghost use Rattle.m8.specs.Course.{Room};
 
-use records::{Q, QField, T, TField};
+use judge::Refusal;
+use payments::Terms;
+use records::{Field, QField, TField};
 
 // The bytes of a record, and of the table of codes.
 pub const LENGTH: usize = 124;
@@ -26,20 +29,29 @@ const LINE: usize = 35;
 
 // How many records there are; or the number of a refusal, its record, and 0.
 #[repr(C)]
-#[derive(Drop)]
+#[derive(Clone, Copy, PartialEq, Eq)]
 pub struct Filed {
     pub number: usize,
     pub rec: usize,
     pub count: usize,
 }
 
-fn refusal(number: usize, rec: usize) -> Filed
-    ensures { result ≡ not_filed number rec }
-{
-    Filed {
-        number,
-        rec,
-        count: 0,
+impl From<Result<usize, Refusal>> for Filed {
+    ghost from_gives = { λ answer f. f ≡ filed_in answer };
+
+    fn from(answer: Result<usize, Refusal>) -> Filed {
+        match answer {
+            Ok(count) => Filed {
+                number: 0,
+                rec: 0,
+                count,
+            },
+            Err(why) => Filed {
+                number: why.number(),
+                rec: why.rec(),
+                count: 0,
+            },
+        }
     }
 }
 
@@ -54,41 +66,47 @@ fn append(piece: &[u8], out: &mut [u8], at: usize) -> usize
 }
 
 // DM8-1 to DM8-7: the file.
-fn heading(q: &[u8], out: &mut [u8], at: usize) -> usize
-    requires { (length q.now ≡ 256) × Left 38 at out.old }
+fn heading(q: &[u8; 256], out: &mut [u8], at: usize) -> usize
+    requires { Left 38 at out.old }
     ensures { Noted (heading_of q.now) at out.old out.new result }
 {
     let mut end = append(b"DM8", out, at);
-    end = append(Q::field(q, QField::Q6), out, end);
+    end = append(records::bytes(q, QField::Q6), out, end);
     end = append(b"000", out, end);
-    end = append(Q::field(q, QField::Q7), out, end);
+    end = append(records::bytes(q, QField::Q7), out, end);
     append(b"0000000                 ", out, end)
 }
 
 // DM8-8: the amount in cents.
-fn amount(t: &[u8], out: &mut [u8], at: usize) -> usize
-    requires { (length t.now ≡ 768) × Left 18 at out.old }
+fn amount(t: &[u8; 768], out: &mut [u8], at: usize) -> usize
+    requires { Left 18 at out.old }
     ensures { Noted (amount_of t.now) at out.old out.new result }
 {
     let mut end = append(b"00", out, at);
-    end = append(T::field(t, TField::T14a), out, end);
-    let cents = T::field(t, TField::T14b);
-    append(&cents[0..2], out, end)
+    end = append(records::bytes(t, TField::T14a), out, end);
+    append(&records::bytes(t, TField::T14b)[0..2], out, end)
 }
 
 // DM8-10: the first line of T15, replaced within its stretch of the output.
-fn reference(page: u32, t: &[u8], stretch: &mut [u8])
-    requires { (length t.now ≡ 768) × (length stretch.old ≡ 35) }
+fn reference(page: u32, t: &[u8; 768], stretch: &mut [u8])
+    requires { length stretch.old ≡ 35 }
     ensures { stretch.new ≡ reference_of page t.now }
 {
-    let line = records::line(T::place(TField::T15), 1);
+    let line = records::line(TField::T15.place(), 1);
     stretch.copy_from_slice(records::part(t, line));
     charset::replace(page, stretch);
 }
 
 // The record of a payment, with the code of the rule that it breaks.
-fn one_record(page: u32, q: &[u8], t: &[u8], code: &[u8], out: &mut [u8], at: usize) -> usize
-    requires { (length q.now ≡ 256) × (length t.now ≡ 768) × (length code.now ≡ 6) × Left 124 at out.old }
+fn one_record(
+    page: u32,
+    q: &[u8; 256],
+    t: &[u8; 768],
+    code: &[u8; CODE],
+    out: &mut [u8],
+    at: usize,
+) -> usize
+    requires { Left 124 at out.old }
     ensures { Noted (m8_of page q.now code.now t.now) at out.old out.new result }
 {
     let mut end = heading(q, out, at);
@@ -99,53 +117,64 @@ fn one_record(page: u32, q: &[u8], t: &[u8], code: &[u8], out: &mut [u8], at: us
     append(b"                           ", out, behind)
 }
 
-// The record of a payment whose first broken rule is this one; nothing where it breaks none.
+// The record of a payment that breaks this rule first.
 fn payment(
     page: u32,
-    q: &[u8],
-    t: &[u8],
+    q: &[u8; 256],
+    t: &[u8; 768],
     rule: usize,
-    codes: &[u8],
+    codes: &[u8; CODES],
     out: &mut [u8],
     at: usize,
 ) -> usize
-    requires { (length q.now ≡ 256) × (length t.now ≡ 768) × Asked rule codes.now at out.old }
-    ensures { Noted (cond (eqb rule 0) [] (m8_of page q.now (code_of codes.now rule) t.now)) at out.old out.new result }
+    requires { (20 ≤ rule) × (rule < 36) × Left 124 at out.old }
+    ensures { Noted (m8_of page q.now (code_of codes.now rule) t.now) at out.old out.new result }
 {
-    if rule == 0 {
-        return at;
-    }
     let from = CODE * (rule - FIRST);
-    one_record(page, q, t, &codes[from..from + CODE], out, at)
+    let code = codes[from..from + CODE].as_array().unwrap();
+    one_record(page, q, t, code, out, at)
 }
 
-// The records of the returned ones of a file's n payments.
-fn payments(
-    page: u32,
-    file: &[u8],
-    n: usize,
-    transfer: &[u8],
-    cheque: &[u8],
-    codes: &[u8],
-    out: &mut [u8],
-) -> usize
-    requires { (structure_of file.now ≡ Fits n) × Room page file.now transfer.now cheque.now codes.now out.old }
-    ensures { Noted (records_of page file.now transfer.now cheque.now codes.now) 0 out.old out.new result }
+// The records of the returned ones of a file's payments.
+fn payments(terms: &Terms<'_>, file: &[u8], codes: &[u8; CODES], out: &mut [u8]) -> usize
+    requires { ((n : ℕ) × (structure_of file.now ≡ Fits n)) × Room terms.now.page file.now terms.now.transfer.now terms.now.cheque.now codes.now out.old }
+    ensures { Noted (records_of terms.now.page file.now terms.now.transfer.now terms.now.cheque.now codes.now) 0 out.old out.new result }
 {
-    let q = structure::slot(file, 0);
-    let key = payments::key(structure::slot(file, 1));
+    let q = structure::whole(file, 0);
+    let key = payments::key(structure::whole(file, 1));
     let mut at = 0;
-    let mut k = 0;
-    while k < n {
-        k += 1;
-        let t = structure::slot(file, k);
-        let rule = sorting::first_rule(page, transfer, cheque, key, t);
-        at = payment(page, q, t, rule, codes, out, at);
+    for t in count::t_records(file) {
+        if let Some(rule) = sorting::first_rule(terms, key, t) {
+            at = payment(terms.page, q, t, rule, codes, out, at);
+        }
     }
     at
 }
 
 // Sorting's refusals, then 62 and 60; then a record for each returned payment.
+fn file_returned(
+    terms: &Terms<'_>,
+    file: &[u8],
+    codes: &[u8],
+    out: &mut [u8],
+) -> Result<usize, Refusal>
+    ensures { FiledAs terms.now.page file.now terms.now.transfer.now terms.now.cheque.now codes.now out.old (filed_in result) out.new }
+{
+    let count = sorting::sort(terms, file)?.payments.returned as usize;
+    let Some(codes) = codes.as_array::<CODES>() else {
+        return Err(Refusal::Codes);
+    };
+    if out.len() < LENGTH * count {
+        return Err(Refusal::OutputRoom);
+    }
+    // where nothing comes back, the payments are not gone over again
+    if count != 0 {
+        payments(terms, file, codes, out);
+    }
+    Ok(count)
+}
+
+// The same, as C has the answer.
 pub fn records(
     page: u32,
     file: &[u8],
@@ -156,28 +185,10 @@ pub fn records(
 ) -> Filed
     ensures { FiledAs page file.now transfer.now cheque.now codes.now out.old result out.new }
 {
-    let sorted = sorting::sort(page, file, transfer, cheque);
-    let number = sorted.number;
-    if number != 0 {
-        return refusal(number, sorted.rec);
-    }
-    let shares = sorted.payments;
-    let count = shares.returned as usize;
-    let room = LENGTH * count;
-    if codes.len() != CODES {
-        return refusal(62, 0);
-    }
-    if out.len() < room {
-        return refusal(60, 0);
-    }
-    // where nothing comes back, the payments are not gone over again
-    if count != 0 {
-        let n = (shares.kept as usize) + count;
-        payments(page, file, n, transfer, cheque, codes, out);
-    }
-    Filed {
-        number: 0,
-        rec: 0,
-        count,
-    }
+    let terms = Terms {
+        page,
+        transfer,
+        cheque,
+    };
+    Filed::from(file_returned(&terms, file, codes, out))
 }

@@ -1,4 +1,5 @@
-// The notes of a text field's changed characters, by rising place.
+// The notes of a text field's changed characters, by rising place. They go into places that the caller lends; how many are there
+// is handed in and comes back, and is no field beside them: `Noted`, which every caller's contract cites, speaks of each by itself.
 #![tactic(auto)]
 
 ghost use Rattle.std.specs.Prelude.{◌≡◌, [], ◌∷◌, ◌+◌, ◌*◌, ◌≤◌, ◌<◌, length};

@@ -15,6 +15,14 @@ use fields::Class;
 use records::TField;
 use rules::{check, is, left_blank, line_blank, wholly};
 
+// What a file is judged by: the code page that its text is read on, and the countries for transfers and for cheques.
+#[derive(Clone, Copy)]
+pub struct Terms<'a> {
+    pub page: u32,
+    pub transfer: &'a [u8],
+    pub cheque: &'a [u8],
+}
+
 // 20: a non-digit in T3 or T4b, or T4a not EUR.
 #[tactic(auto, unfolding(crate::specs::Rules::rule20))]
 fn rule20(rec: &[u8; 768]) -> Result<(), TField>
@@ -257,15 +265,8 @@ fn rule35(rec: &[u8; 768]) -> Result<(), TField>
 
 // A rule by its number. The numbers stay: document 01 names the form, a loop over field rules inside a walk over records.
 #[tactic(auto, unfolding(crate::specs::Faults::t_fault))]
-fn by_number(
-    page: u32,
-    transfer: &[u8],
-    cheque: &[u8],
-    key: &[u8; 21],
-    rec: &[u8; 768],
-    rule: usize,
-) -> Result<(), TField>
-    ensures { offset t_place result ≡ t_fault page transfer.now cheque.now key.now rec.now rule }
+fn by_number(terms: &Terms<'_>, key: &[u8; 21], rec: &[u8; 768], rule: usize) -> Result<(), TField>
+    ensures { offset t_place result ≡ t_fault terms.now.page terms.now.transfer.now terms.now.cheque.now key.now rec.now rule }
 {
     match rule {
         20 => rule20(rec),
@@ -273,13 +274,13 @@ fn by_number(
         22 => rule22(rec),
         23 => rule23(rec),
         24 => rule24(rec),
-        25 => rule25(page, rec),
-        26 => rule26(page, transfer, rec),
-        27 => rule27(page, rec),
-        28 => rule28(transfer, cheque, rec),
-        29 => rule29(page, rec),
+        25 => rule25(terms.page, rec),
+        26 => rule26(terms.page, terms.transfer, rec),
+        27 => rule27(terms.page, rec),
+        28 => rule28(terms.transfer, terms.cheque, rec),
+        29 => rule29(terms.page, rec),
         30 => rule30(rec),
-        31 => rule31(page, rec),
+        31 => rule31(terms.page, rec),
         32 => rule32(rec),
         33 => rule33(rec),
         34 => rule34(rec),
@@ -289,15 +290,8 @@ fn by_number(
 }
 
 // What a rule says of a T record, with record 1's bytes from T3 to T4b as the key: the offset of the field that breaks it.
-pub fn fault(
-    page: u32,
-    transfer: &[u8],
-    cheque: &[u8],
-    key: &[u8; 21],
-    rec: &[u8; 768],
-    rule: usize,
-) -> Option<usize>
-    ensures { result ≡ nonzero (t_fault page transfer.now cheque.now key.now rec.now rule) }
+pub fn fault(terms: &Terms<'_>, key: &[u8; 21], rec: &[u8; 768], rule: usize) -> Option<usize>
+    ensures { result ≡ nonzero (t_fault terms.now.page terms.now.transfer.now terms.now.cheque.now key.now rec.now rule) }
 {
-    rules::offset(by_number(page, transfer, cheque, key, rec, rule))
+    rules::offset(by_number(terms, key, rec, rule))
 }

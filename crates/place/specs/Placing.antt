@@ -65,7 +65,8 @@ module _ (page : ℕ) (rec : List ℕ) (first k : ℕ) {s : Span} (low : 2 ≤ k
   pub replaced_more : (ss : List Span)
       → fwd (rep page) (lies (ss ++ texts_from first k ++ (s ∷ []))) 0 rec ≡ fwd (rep page) (lies (ss ++ texts_from first (k + 1))) 0 rec
   replaced_more ss =
-      ap (λ (ts : List Span). fwd (rep page) (lies ts) 0 rec) (append_assoc ss (texts_from first k) (s ∷ []) ∙ ap (λ (ts : List Span). ss ++ ts) (sym one_more))
+      let more = append_assoc ss (texts_from first k) (s ∷ []) ∙ ap (λ (ts : List Span). ss ++ ts) (sym one_more) in
+      ap (λ (ts : List Span). fwd (rep page) (lies ts) 0 rec) more
 
   module _ (a : ℕ) where
     notes_from : field_notes (texts_from first (k + 1)) a rec ≡ field_notes (texts_from first k) a rec ++ field_notes (s ∷ []) a rec
@@ -75,8 +76,11 @@ module _ (page : ℕ) (rec : List ℕ) (first k : ℕ) {s : Span} (low : 2 ≤ k
         → length (field_notes (texts_from first k) a rec) + length (field_notes (s ∷ []) a rec) ≤ length (field_notes (texts_from first end) a rec)
     notes_all_fit end more most =
         let rest = drop (k + 1 - 2) (texts_below end) in
-        let all = ap (λ (ts : List Span). field_notes ts a rec) (texts_from_rest first (k + 1) end (omega arith) (omega arith) (omega arith) most) ∙ notes_more (texts_from first (k + 1)) rest a rec in
-        omega (arith, ap length all, length-append (field_notes (texts_from first (k + 1)) a rec) (field_notes rest a rec), ap length notes_from, length-append (field_notes (texts_from first k) a rec) (field_notes (s ∷ []) a rec))
+        let texts = texts_from_rest first (k + 1) end (omega arith) (omega arith) (omega arith) most in
+        let all = ap (λ (ts : List Span). length (field_notes ts a rec)) texts ∙ ap length (notes_more (texts_from first (k + 1)) rest a rec) in
+        let sum = length-append (field_notes (texts_from first (k + 1)) a rec) (field_notes rest a rec) in
+        let one = length-append (field_notes (texts_from first k) a rec) (field_notes (s ∷ []) a rec) in
+        omega (arith, all, sum, ap length notes_from, one)
 
     pub noted_from : (end : ℕ) → k < end → end ≤ 10 → {have n m : ℕ} {ps ps' ps'' : List ℕ}
         → have + length (field_notes (texts_from first end) a rec) ≤ length ps → Noted (field_notes (texts_from first k) a rec) have ps ps' n

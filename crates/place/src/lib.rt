@@ -16,7 +16,8 @@ ghost use Rattle.forwarding.specs.Pieces.{sent_in, noted_in};
 ghost use Rattle.forwarding.specs.Sized.{Sized, z_at};
 ghost use Rattle.place.specs.Placing.{TheseLie};
 
-use records::{Q, Span, T, Z};
+use records::{Field, Q, QField, Span, T, Z};
+use std::ops::Range;
 
 // A text field of a record that stands at a place of the file, in its stretch of the part; whichever fields were replaced there
 // before. Few have a note.
@@ -53,31 +54,30 @@ pub fn q_record(page: u32, rec: &[u8; 256], part: &mut [u8], notes: &mut [u32]) 
     ensures noted { Noted (field_notes q_texts 0 rec.now) 0 notes.old notes.new result }
 {
     part.copy_from_slice(rec);
-    field(page, rec, Q::text(1), part, 0, notes, 0)
+    field(page, rec, QField::Q5.place(), part, 0, notes, 0)
 }
 
-// The text fields from one number up to below another, which lie in the 320 bytes from a place of the record on. Where none of
-// these changes, no field has to be asked by itself.
+// The text fields of these numbers, which lie in the 320 bytes from a place of the record on. Where none of these changes, no
+// field has to be asked by itself.
 fn some_fields(
     page: u32,
     rec: &[u8; 768],
     from: usize,
-    first: usize,
-    end: usize,
+    numbers: Range<usize>,
     part: &mut [u8],
     at: usize,
     notes: &mut [u32],
     have: usize,
 ) -> usize
-    requires { (length part.old ≡ 768) × (at + 768 ≤ 7679744) × TheseLie from first end × (have + length (field_notes (texts_from first end) at rec.now) ≤ length notes.old) }
-    ensures output { (ss : List Span) → part.old ≡ fwd (rep page) (lies ss) 0 rec.now → part.new ≡ fwd (rep page) (lies (ss ++ texts_from first end)) 0 rec.now }
-    ensures noted { Noted (field_notes (texts_from first end) at rec.now) have notes.old notes.new result }
+    requires { (length part.old ≡ 768) × (at + 768 ≤ 7679744) × TheseLie from numbers.start numbers.end × (have + length (field_notes (texts_from numbers.start numbers.end) at rec.now) ≤ length notes.old) }
+    ensures output { (ss : List Span) → part.old ≡ fwd (rep page) (lies ss) 0 rec.now → part.new ≡ fwd (rep page) (lies (ss ++ texts_from numbers.start numbers.end)) 0 rec.now }
+    ensures noted { Noted (field_notes (texts_from numbers.start numbers.end) at rec.now) have notes.old notes.new result }
 {
     if count::none(&rec[from..from + 320]) {
         return have;
     }
     let mut n = have;
-    for k in first..end {
+    for k in numbers.start..numbers.end {
         n = field(page, rec, T::text(k), part, at, notes, n);
     }
     n
@@ -96,8 +96,8 @@ fn t_fields(
     ensures output { part.new ≡ fwd (rep page) (lies t_texts) 0 rec.now }
     ensures noted { Noted (field_notes t_texts at rec.now) have notes.old notes.new result }
 {
-    let n = some_fields(page, rec, 53, 2, 5, part, at, notes, have);
-    some_fields(page, rec, 420, 5, 10, part, at, notes, n)
+    let n = some_fields(page, rec, 53, 2..5, part, at, notes, have);
+    some_fields(page, rec, 420, 5..10, part, at, notes, n)
 }
 
 // The same of a T record that stands at a place of the file, with its notes behind those that there are.
@@ -117,7 +117,8 @@ pub fn t_record(
     t_fields(page, rec, part, at, notes, have)
 }
 
-// The T records, each at its own place, with their notes behind those that the places have.
+// The T records, each at its own place, with their notes behind those that the places have. The output goes by offsets: of chunks
+// of it that are written, as_chunks_mut does not say what the whole ends as.
 fn payments(page: u32, file: &[u8], out: &mut [u8], notes: &mut [u32], have: usize) -> usize
     requires { Sized file.now × (length file.now ≤ length out.old) × (have + length (noted_in 0 256 (z_at file.now) file.now) ≤ length notes.old) }
     ensures output { out.new ≡ put 256 (sent_in page 256 (z_at file.now) file.now) out.old }

@@ -1,5 +1,5 @@
 -- The promise of the default way, by what the code found: a refusal, which writes nothing, or success.
-use Rattle.std.specs.Prelude.{ℕ, ◌+◌, ◌*◌, ◌≤◌, ◌≡◌, refl, Bool, true, false, List, eqb, ltb, length}
+use Rattle.std.specs.Prelude.{ℕ, ◌+◌, ◌*◌, ◌≤◌, ◌≡◌, refl, Bool, true, false, List, eqb, ltb, length, Err}
 use Rattle.std.proofs.Math.Path.{sym, ap₂}
 use Rattle.std.proofs.Common.{ap, ◌∙◌, arith, ltb-false}
 use Rattle.std.proofs.Math.Bool.{cond}
@@ -15,8 +15,11 @@ use Rattle.sorting.specs.Lists.{counts_add, named_count}
 use Rattle.sorting.specs.Frame.{records_count, z_of, kept_lengths, kept_few}
 use Rattle.sorting.proofs.Goes.{GoesOn, goes}
 use Rattle.sorting.specs.declared.Sorted.{Sorted}
+use Rattle.judge.specs.declared.Refusal.{Refusal}
+use Rattle.sorting.specs.Answer.{sorted_of}
 use Rattle.sending.specs.Whole.{CanSend, FileSent}
 use Rattle.prepare.specs.Prepared.{not_prepared, done, send_of}
+use Rattle.prepare.specs.Answer.{Short}
 use Rattle.prepare.specs.Default.{or_refused, default_of, DefaultAs}
 
 -- the room that a kept file lacks, by its figures: the refusals of the rooms in one number
@@ -94,45 +97,45 @@ module _ (page : ℕ) (file transfer cheque out notes list : List ℕ) {s : Sort
         (ap (ltb (length out)) long) (ap (ltb (length notes)) (sym notes_is))
         ∙ rooms_told s (length (notes_of page K)) (ltb (length out) (512 + 768 * s.payments.kept)) (ltb (length notes) s.notes) (ltb (length list) s.payments.returned)
 
-    module _ {short : ℕ} (m : short ≡ room_missing s (length out) (length notes) (length list)) where
-      pub default_short : {r : Sorted} → (short ≡ 0 → ⊥) → r ≡ unsorted short 0 → DefaultAs page file transfer cheque out notes list r out notes list
-      default_short {r} f q =
-          refuses (λ y. f (sym (ap (λ (s : Sorted). s.number) q) ∙ y))
-          (q ∙ off_eq s (λ y. f (m ∙ y)) (ap (λ (k : ℕ). unsorted k 0) m) ∙ sym by_rooms)
+    pub default_short : {why : Refusal} → Short why (room_missing s (length out) (length notes) (length list))
+        → DefaultAs page file transfer cheque out notes list (sorted_of (Err why)) out notes list
+    default_short {why} h =
+        refuses (λ y. h.real (sym h.number_is ∙ y))
+        (off_eq s h.real (ap₂ unsorted h.number_is h.no_record) ∙ sym by_rooms)
 
-      module _ (room : short ≡ 0) where
-        answered : s ≡ default_of page file transfer cheque out notes list
-        answered = on_eq (unsorted (room_missing s (length out) (length notes) (length list)) 0) (sym m ∙ room) refl ∙ sym by_rooms
+    module _ (room : room_missing s (length out) (length notes) (length list) ≡ 0) where
+      answered : s ≡ default_of page file transfer cheque out notes list
+      answered = on_eq (unsorted (room_missing s (length out) (length notes) (length list)) 0) room refl ∙ sym by_rooms
 
-        all_there : (length K ≤ length out) × (length (notes_of page K) ≤ length notes) × (length (named_in page file transfer cheque) ≤ length list)
-        all_there =
-            let w = go (ltb (length out) (512 + 768 * s.payments.kept)) (ltb (length notes) s.notes) (ltb (length list) s.payments.returned) refl refl refl (sym m ∙ room) in
-            (omega (arith, w.0, long), omega (arith, w.1, notes_is), omega (arith, w.2, returned_is, named_count (rule_in page file transfer cheque) 1 (t_records file)))
-          where
-            go : (a b c : Bool) → ltb (length out) (512 + 768 * s.payments.kept) ≡ a → ltb (length notes) s.notes ≡ b → ltb (length list) s.payments.returned ≡ c
-                → ◌≡◌ {A = ℕ} (cond a 60 (cond b 61 (cond c 63 0))) 0
-                → (512 + 768 * s.payments.kept ≤ length out) × (s.notes ≤ length notes) × (s.payments.returned ≤ length list)
-            go true b c p q r k = absurd (omega arith)
-            go false true c p q r k = absurd (omega arith)
-            go false false true p q r k = absurd (omega arith)
-            go false false false p q r k = (ltb-false _ _ p, ltb-false _ _ q, ltb-false _ _ r)
+      all_there : (length K ≤ length out) × (length (notes_of page K) ≤ length notes) × (length (named_in page file transfer cheque) ≤ length list)
+      all_there =
+          let w = go (ltb (length out) (512 + 768 * s.payments.kept)) (ltb (length notes) s.notes) (ltb (length list) s.payments.returned) refl refl refl room in
+          (omega (arith, w.0, long), omega (arith, w.1, notes_is), omega (arith, w.2, returned_is, named_count (rule_in page file transfer cheque) 1 (t_records file)))
+        where
+          go : (a b c : Bool) → ltb (length out) (512 + 768 * s.payments.kept) ≡ a → ltb (length notes) s.notes ≡ b → ltb (length list) s.payments.returned ≡ c
+              → ◌≡◌ {A = ℕ} (cond a 60 (cond b 61 (cond c 63 0))) 0
+              → (512 + 768 * s.payments.kept ≤ length out) × (s.notes ≤ length notes) × (s.payments.returned ≤ length list)
+          go true b c p q r k = absurd (omega arith)
+          go false true c p q r k = absurd (omega arith)
+          go false false true p q r k = absurd (omega arith)
+          go false false false p q r k = (ltb-false _ _ p, ltb-false _ _ q, ltb-false _ _ r)
 
-        writes : {out' notes' list' : List ℕ} → out' ≡ put 0 (forwarded page K) out → notes' ≡ put 0 (notes_of page K) notes
-            → list' ≡ put 0 (named_in page file transfer cheque) list → DefaultAs page file transfer cheque out notes list s out' notes' list'
-        writes p q r = record { answer_is = answered; out_is = on_eq _ z p; notes_are = on_eq _ z q; list_is = on_eq _ z r }
+      writes : {out' notes' list' : List ℕ} → out' ≡ put 0 (forwarded page K) out → notes' ≡ put 0 (notes_of page K) notes
+          → list' ≡ put 0 (named_in page file transfer cheque) list → DefaultAs page file transfer cheque out notes list s out' notes' list'
+      writes p q r = record { answer_is = answered; out_is = on_eq _ z p; notes_are = on_eq _ z q; list_is = on_eq _ z r }
 
-        pub can_send : CanSend page file (s.payments.kept + s.payments.returned) transfer cheque s.payments.kept s.euros.kept out notes list
-        can_send =
-            let all : s.payments.kept + s.payments.returned ≡ n = omega (arith, kept_is, returned_is, counts_add (rule_in page file transfer cheque) (t_records file), records_count file n g.fits) in
-            record {
-              fits = g.fits ∙ ap Fits (sym all);
-              kept_is = kept_is;
-              sum_is = ap (λ (s : Sorted). s.euros.kept) is;
-              bytes = all_there.0;
-              places = all_there.1;
-              names = all_there.2;
-            }
+      pub can_send : CanSend page file (s.payments.kept + s.payments.returned) transfer cheque s.payments.kept s.euros.kept out notes list
+      can_send =
+          let all : s.payments.kept + s.payments.returned ≡ n = omega (arith, kept_is, returned_is, counts_add (rule_in page file transfer cheque) (t_records file), records_count file n g.fits) in
+          record {
+            fits = g.fits ∙ ap Fits (sym all);
+            kept_is = kept_is;
+            sum_is = ap (λ (s : Sorted). s.euros.kept) is;
+            bytes = all_there.0;
+            places = all_there.1;
+            names = all_there.2;
+          }
 
-        pub default_sent : {out' notes' list' : List ℕ} → FileSent page file transfer cheque out notes list out' notes' list'
-            → DefaultAs page file transfer cheque out notes list s out' notes' list'
-        default_sent f = writes f.output f.noted f.listed
+      pub default_sent : {out' notes' list' : List ℕ} → FileSent page file transfer cheque out notes list out' notes' list'
+          → DefaultAs page file transfer cheque out notes list s out' notes' list'
+      default_sent f = writes f.output f.noted f.listed

@@ -1,4 +1,5 @@
 pub mod Prepared
+pub mod Answer
 pub mod Default
 pub mod Outcome
 pub mod DefaultOutcome

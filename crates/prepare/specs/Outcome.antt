@@ -1,12 +1,14 @@
 -- The promise by what the code found: a refusal, which writes nothing, or success.
-use Rattle.std.specs.Prelude.{ℕ, ◌+◌, ◌-◌, ◌/◌, ◌≤◌, ◌<◌, ◌≡◌, refl, Bool, true, false, not, List, ◌++◌, drop}
+use Rattle.std.specs.Prelude.{ℕ, ◌+◌, ◌-◌, ◌/◌, ◌≤◌, ◌<◌, ◌≡◌, refl, Bool, true, false, List, ◌++◌, drop, Err}
 use Rattle.std.proofs.Common.{sym, ◌∙◌, arith}
 use Rattle.std.proofs.Math.Path.{ap}
 use Rattle.std.proofs.Math.ListN.{length}
-use Rattle.laws.specs.Choice.{on_lt, off_lt, on_eq, off_eq, on_not, off_not}
+use Rattle.laws.specs.Choice.{on_lt, off_lt, on_eq, off_eq, on_call, off_call}
 use Rattle.laws.specs.Steps.{empty}
 use Rattle.charset.specs.Table.{is_page}
 use Rattle.judge.specs.Verdict.{verdict_of}
+use Rattle.judge.specs.declared.Refusal.{Refusal}
+use Rattle.judge.specs.declared.Refusal.TheVariants.{OutputRoom, NoteRoom}
 use Rattle.judge.specs.Told.{sound_fits}
 use Rattle.judge.specs.declared.Verdict.{Verdict}
 use Rattle.forwarding.specs.Forwarded.{forwarded, notes_of}
@@ -15,6 +17,7 @@ use Rattle.forwarding.specs.Changes.{as_it_is}
 use Rattle.forwarding.specs.Most.{text_length, notes_most}
 use Rattle.forwarding.specs.Noted.{Noted, noted_none, noted_is}
 use Rattle.forwarding.specs.Sized.{Sized}
+use Rattle.prepare.specs.Answer.{prepared_in}
 use Rattle.prepare.specs.Prepared.{not_prepared, done, send_of, prepare_by, prepare_of, output_after, notes_after, SentAs, PreparedAs}
 use Rattle.prepare.specs.declared.Prepared.{Prepared}
 
@@ -38,30 +41,28 @@ module _ (page : ℕ) (file out notes : List ℕ) (none : length (notes_of page 
   same_notes = noted_is (sym (empty (notes_of page file) none)) (noted_none 0 notes)
 
 -- a refusal leaves the output and the note places as they are
-module _ (page : ℕ) (file : List ℕ) {r : Prepared} {number rec : ℕ} (e : r ≡ not_prepared number rec) (some : 0 < number) where
-  no_zero : r.number ≡ 0 → ⊥
-  no_zero z = omega (arith, ap (λ (r : Prepared). r.number) e)
+module _ (page : ℕ) (file : List ℕ) (number rec : ℕ) (real : number ≡ 0 → ⊥) where
+  out_kept : (out : List ℕ) → out ≡ output_after (not_prepared number rec) page file out
+  out_kept out = off_eq _ real refl
 
-  out_kept : (out : List ℕ) → out ≡ output_after r page file out
-  out_kept out = off_eq _ no_zero refl
-
-  notes_kept : (notes : List ℕ) → notes ≡ notes_after r page file notes
-  notes_kept notes = off_eq _ no_zero refl
+  notes_kept : (notes : List ℕ) → notes ≡ notes_after (not_prepared number rec) page file notes
+  notes_kept notes = off_eq _ real refl
 
 module _ (page : ℕ) (file out notes : List ℕ) where
-  refuses : {r : Prepared} {number rec : ℕ} → r ≡ not_prepared number rec → 0 < number → not_prepared number rec ≡ send_of page file out notes
-      → SentAs page file out notes r out notes
-  refuses e some q =
-      record { answer_is = e ∙ q; out_is = out_kept page file e some out; notes_are = notes_kept page file e some notes }
+  refuses : {number rec : ℕ} → (number ≡ 0 → ⊥) → not_prepared number rec ≡ send_of page file out notes
+      → SentAs page file out notes (not_prepared number rec) out notes
+  refuses {number} {rec} real q =
+      record { answer_is = q; out_is = out_kept page file number rec real out; notes_are = notes_kept page file number rec real notes }
 
-  pub sent_60 : {r : Prepared} → r ≡ not_prepared 60 0 → length out < length file → SentAs page file out notes r out notes
+  pub sent_60 : {why : Refusal} → (why ≡ OutputRoom) × (length out < length file) → SentAs page file out notes (prepared_in (Err why)) out notes
   unfolding send_of
-  sent_60 e h = refuses e (omega arith) (on_lt _ h refl)
+  sent_60 (e, h) = rw e (refuses (λ z. omega arith) (on_lt _ h refl))
 
   module _ (room : length file ≤ length out) where
-    pub sent_61 : {r : Prepared} → r ≡ not_prepared 61 0 → length notes < length (notes_of page file) → SentAs page file out notes r out notes
+    pub sent_61 : {why : Refusal} → (why ≡ NoteRoom) × (length notes < length (notes_of page file))
+        → SentAs page file out notes (prepared_in (Err why)) out notes
     unfolding send_of
-    sent_61 e h = refuses e (omega arith) (off_lt _ room (on_lt _ h refl))
+    sent_61 (e, h) = rw e (refuses (λ z. omega arith) (off_lt _ room (on_lt _ h refl)))
 
     pub sent_0 : {n : ℕ} {out' notes' : List ℕ} → length (notes_of page file) ≤ length notes → out' ≡ put 0 (forwarded page file) out
         → Noted (notes_of page file) 0 notes notes' n → SentAs page file out notes (done n) out' notes'
@@ -81,22 +82,22 @@ sound_sized page file transfer cheque e z =
 
 -- the page decides first, then soundness: there is whether the page exists, v the verdict
 module _ (page : ℕ) (file transfer cheque out notes : List ℕ) {there : Bool} (known : there ≡ is_page page) where
-  stops : {r : Prepared} {number rec : ℕ} → r ≡ not_prepared number rec → 0 < number → r ≡ prepare_of page file transfer cheque out notes
-      → PreparedAs page file transfer cheque out notes r out notes
-  stops e some q = record { answer_is = q; out_is = out_kept page file e some out; notes_are = notes_kept page file e some notes }
+  stops : {number rec : ℕ} → (number ≡ 0 → ⊥) → not_prepared number rec ≡ prepare_of page file transfer cheque out notes
+      → PreparedAs page file transfer cheque out notes (not_prepared number rec) out notes
+  stops {number} {rec} real q =
+      record { answer_is = q; out_is = out_kept page file number rec real out; notes_are = notes_kept page file number rec real notes }
 
-  pub prepared_no_page : {r : Prepared} → not there ≡ true → r ≡ not_prepared 7 0 → PreparedAs page file transfer cheque out notes r out notes
+  pub prepared_no_page : there ≡ false → PreparedAs page file transfer cheque out notes (not_prepared 7 0) out notes
   unfolding prepare_of
-  prepared_no_page n q = stops q (omega arith) (off_not _ known n q)
+  prepared_no_page n = stops (λ z. omega arith) (off_call _ known n refl)
 
-  module _ (named : not there ≡ false) {v : Verdict} (e : v ≡ verdict_of page file transfer cheque) where
+  module _ (named : there ≡ true) {v : Verdict} (e : v ≡ verdict_of page file transfer cheque) where
     by_verdict : {r : Prepared} → r ≡ prepare_by v page file out notes → r ≡ prepare_of page file transfer cheque out notes
     unfolding prepare_of
-    by_verdict q = on_not (not_prepared 7 0) known named (q ∙ ap (λ (v : Verdict). prepare_by v page file out notes) e)
+    by_verdict q = on_call (not_prepared 7 0) known named (q ∙ ap (λ (v : Verdict). prepare_by v page file out notes) e)
 
-    pub prepared_refused : {r : Prepared} → (v.number ≡ 0 → ⊥) → r ≡ not_prepared v.number v.rec
-        → PreparedAs page file transfer cheque out notes r out notes
-    prepared_refused real q = stops q (omega arith) (by_verdict (off_eq _ real q))
+    pub prepared_refused : (v.number ≡ 0 → ⊥) → PreparedAs page file transfer cheque out notes (not_prepared v.number v.rec) out notes
+    prepared_refused real = stops real (by_verdict (off_eq _ real refl))
 
     pub prepared_sent : {r : Prepared} {out' notes' : List ℕ} → v.number ≡ 0 → SentAs page file out notes r out' notes'
         → PreparedAs page file transfer cheque out notes r out' notes'

@@ -1,16 +1,18 @@
 -- The default way with a sound file: nothing is returned, the kept file is the file, and what sending it answers is the answer.
-use Rattle.std.specs.Prelude.{ℕ, ◌≡◌, Bool, true, not, eqb, length}
+use Rattle.std.specs.Prelude.{ℕ, ◌≡◌, Bool, true, not, eqb, length, Err}
 use Rattle.std.proofs.Math.Path.{refl, ap, ap₂}
 use Rattle.std.proofs.Common.{sym, ◌∙◌, arith}
 use Rattle.std.proofs.Math.Bool.{false, cond}
 use mathlib.Core.List.{List, []}
 use borrow.Author.Tests.{eqb-true, le-ltb}
 use Rattle.std.proofs.Math.Dec.{ltb}
-use Rattle.laws.specs.Choice.{on_eq}
+use Rattle.laws.specs.Choice.{on_eq, off_eq}
 use Rattle.laws.specs.Steps.{empty}
 use Rattle.charset.specs.Table.{is_page}
 use Rattle.judge.specs.Verdict.{verdict_of}
 use Rattle.judge.specs.declared.Verdict.{Verdict}
+use Rattle.judge.specs.Refusal.{number_of}
+use Rattle.judge.specs.declared.Refusal.{Refusal}
 use Rattle.forwarding.specs.Forwarded.{forwarded, notes_of}
 use Rattle.forwarding.specs.Put.{put, put_none}
 use Rattle.sorting.specs.Kept.{t_records, rule_in, returned_in, named_in, kept_file}
@@ -20,6 +22,8 @@ use Rattle.sorting.specs.Counting.{figures_are, going_on}
 use Rattle.sorting.proofs.Answers.{told_no_page, told_sound}
 use Rattle.sorting.proofs.Goes.{GoesOn, goes, kept_whole_file}
 use Rattle.sorting.specs.declared.Sorted.{Sorted}
+use Rattle.sorting.specs.Answer.{sorted_of}
+use Rattle.prepare.specs.Answer.{prepared_in}
 use Rattle.prepare.specs.Prepared.{not_prepared, done, send_of, SentAs}
 use Rattle.prepare.specs.Default.{or_refused, default_of, left_by, DefaultAs}
 use Rattle.prepare.specs.DefaultOutcome.{default_refused}
@@ -93,16 +97,16 @@ module _ (page : ℕ) (file transfer cheque out notes list : List ℕ) where
 
   -- the page decides first, then soundness: there is whether the page exists, v the verdict
   module _ {there : Bool} (known : there ≡ is_page page) where
-    pub default_no_page : {r : Sorted} → not there ≡ true → r ≡ unsorted 7 0 → DefaultAs page file transfer cheque out notes list r out notes list
-    default_no_page {r} t q =
-        default_refused page file transfer cheque out notes list (told_no_page page file transfer cheque known t q)
-        (λ (z : r.number ≡ 0). omega (arith, ap (λ (s : Sorted). s.number) q))
+    pub default_no_page : there ≡ false → DefaultAs page file transfer cheque out notes list (unsorted 7 0) out notes list
+    default_no_page t =
+        default_refused page file transfer cheque out notes list (told_no_page page file transfer cheque known (ap not t) refl)
+        (λ z. omega arith)
 
-    pub default_sound : {v : Verdict} {r : Sorted} {sent : Prepared} {out' notes' : List ℕ} → not there ≡ false → v ≡ verdict_of page file transfer cheque
+    pub default_sound : {v : Verdict} {r : Sorted} {sent : Prepared} {out' notes' : List ℕ} → there ≡ true → v ≡ verdict_of page file transfer cheque
         → v.number ≡ 0 → SentAs page file out notes sent out' notes' → r ≡ whole_by v sent
         → DefaultAs page file transfer cheque out notes list r out' notes' list
     default_sound {v} {r} {sent} t e z w q =
-        default_whole (told_sound page file transfer cheque known t e z refl refl) refl (omega arith) w
+        default_whole (told_sound page file transfer cheque known (ap not t) e z refl refl) refl (omega arith) w
         (q ∙ go (eqb sent.number 0) refl)
       where
         go : (b : Bool) → eqb sent.number 0 ≡ b
@@ -111,3 +115,9 @@ module _ (page : ℕ) (file transfer cheque out notes list : List ℕ) where
             let n = ap (λ (s : Prepared). s.number) w.answer_is in
             ap (whole_of v) (ap (λ (s : Prepared). s.notes) w.answer_is ∙ sent_notes page file out notes (sym n ∙ eqb-true sent.number 0 p))
         go false p = refl
+
+    -- or it is not sent
+    pub default_not_sent : (why : Refusal) {v : Verdict} {out' notes' : List ℕ} → there ≡ true → v ≡ verdict_of page file transfer cheque
+        → v.number ≡ 0 → SentAs page file out notes (prepared_in (Err why)) out' notes' → (number_of why ≡ 0 → ⊥)
+        → DefaultAs page file transfer cheque out notes list (sorted_of (Err why)) out' notes' list
+    default_not_sent why t e z w real = default_sound t e z w (off_eq _ real refl)

@@ -2,20 +2,23 @@
 // takes a sound file whole; the default way sends the payments that break no rule, and names the others.
 #![tactic(auto)]
 
-ghost use Rattle.std.specs.Prelude.{◌≡◌, ◌+◌, ◌-◌, ◌/◌, ◌≤◌, length};
+ghost use Rattle.std.specs.Prelude.{◌≡◌, ◌+◌, ◌-◌, ◌/◌, ◌≤◌, ◌<◌, length, Ok, IfErr, MatchResult};
 ghost use Rattle.forwarding.specs.Forwarded.{forwarded, notes_of};
 ghost use Rattle.forwarding.specs.Put.{put};
 ghost use Rattle.forwarding.specs.Most.{text_length};
 ghost use Rattle.forwarding.specs.Noted.{Noted};
 ghost use Rattle.forwarding.specs.Sized.{Sized};
-ghost use Rattle.prepare.specs.Prepared.{not_prepared, SentAs, PreparedAs};
+ghost use Rattle.judge.specs.Refusal.{number_of};
+ghost use Rattle.sorting.specs.Answer.{sorted_of};
 ghost use Rattle.sending.specs.Whole.{CanSend, FileSent};
+ghost use Rattle.prepare.specs.Answer.{prepared_in, Short};
+ghost use Rattle.prepare.specs.Prepared.{SentAs, PreparedAs};
 ghost use Rattle.prepare.specs.Default.{DefaultAs};
 ghost use Rattle.prepare.specs.DefaultOutcome.{room_missing};
-ghost use Rattle.prepare.specs.SoundOutcome.{whole_by};
 
-use judge::Verdict;
-use sorting::Sorted;
+use judge::Refusal;
+use payments::Terms;
+use sorting::{Going, Sorted};
 
 // Number 0, record 0 and how many notes there are; or the number of a refusal, its record, and 0.
 #[repr(C)]
@@ -26,18 +29,28 @@ pub struct Prepared {
     pub notes: usize,
 }
 
-fn refusal(number: usize, rec: usize) -> Prepared
-    ensures { result ≡ not_prepared number rec }
-{
-    Prepared {
-        number,
-        rec,
-        notes: 0,
+impl From<Result<usize, Refusal>> for Prepared {
+    ghost from_gives = { λ sent p. p ≡ prepared_in sent };
+
+    fn from(sent: Result<usize, Refusal>) -> Self {
+        match sent {
+            Ok(notes) => Self {
+                number: 0,
+                rec: 0,
+                notes,
+            },
+            Err(why) => Self {
+                number: why.number(),
+                rec: why.rec(),
+                notes: 0,
+            },
+        }
     }
 }
 
 // Output and notes of a file with so many changes, for which there is room, and how many notes there are. Where there are none,
 // it goes on as it is.
+#[tactic(auto, using(crate::specs::Outcome::same_output, crate::specs::Outcome::same_notes))]
 fn write(page: u32, file: &[u8], changes: usize, out: &mut [u8], notes: &mut [u32]) -> usize
     requires { Sized file.now × (length file.now ≤ length out.old) × (changes ≡ length (notes_of page file.now)) × (changes ≤ length notes.old) }
     ensures output { out.new ≡ put 0 (forwarded page file.now) out.old }
@@ -58,37 +71,50 @@ fn enough(bytes: usize) -> usize
     140 + 553 * ((bytes - 512) / 768)
 }
 
-// The file to send, by its room: nothing is written before both are known. Where there are places enough for every character of
-// text, 61 cannot come, and the changes need not be counted first.
-fn send(page: u32, file: &[u8], out: &mut [u8], notes: &mut [u32]) -> Prepared
-    requires { Sized file.now }
-    ensures { SentAs page file.now out.old notes.old result out.new notes.new }
+// What needs so much room finds it, or is refused.
+fn room(needed: usize, lent: usize, missing: Refusal) -> Result<(), Refusal>
+    ensures { MatchResult result (λ _. needed ≤ lent) (λ why. (why ≡ missing) × (lent < needed)) }
 {
-    if out.len() < file.len() {
-        return refusal(60, 0);
+    if lent < needed {
+        return Err(missing);
     }
-    if enough(file.len()) <= notes.len() {
-        let all = place::file(page, file, out, notes);
-        return Prepared {
-            number: 0,
-            rec: 0,
-            notes: all,
-        };
-    }
-    let changes = count::file(file);
-    if notes.len() < changes {
-        return refusal(61, 0);
-    }
-    let n = write(page, file, changes, out, notes);
-    Prepared {
-        number: 0,
-        rec: 0,
-        notes: n,
-    }
+    Ok(())
 }
 
-// The strict way. A page that does not exist is 7, before anything is read; then soundness, then 60, then 61. The output
-// and the notes only where all is well.
+// The file to send, by its room: nothing is written before both are known. Where there are places enough for every character of
+// text, 61 cannot come, and the changes need not be counted first.
+fn send(page: u32, file: &[u8], out: &mut [u8], notes: &mut [u32]) -> Result<usize, Refusal>
+    requires { Sized file.now }
+    ensures answer { SentAs page file.now out.old notes.old (prepared_in result) out.new notes.new }
+    ensures real { IfErr result (λ why. number_of why ≡ 0 → ⊥) }
+{
+    room(file.len(), out.len(), Refusal::OutputRoom)?;
+    if enough(file.len()) <= notes.len() {
+        return Ok(place::file(page, file, out, notes));
+    }
+    let changes = count::file(file);
+    room(changes, notes.len(), Refusal::NoteRoom)?;
+    Ok(write(page, file, changes, out, notes))
+}
+
+// A page that does not exist is 7, before anything is read; then soundness, then 60, then 61. The output and the notes only
+// where all is well.
+fn strictly(
+    terms: &Terms<'_>,
+    file: &[u8],
+    out: &mut [u8],
+    notes: &mut [u32],
+) -> Result<usize, Refusal>
+    ensures { PreparedAs terms.now.page file.now terms.now.transfer.now terms.now.cheque.now out.old notes.old (prepared_in result) out.new notes.new }
+{
+    if !charset::is_page(terms.page) {
+        return Err(Refusal::NoSuchPage);
+    }
+    judge::examine(terms, file)?;
+    send(terms.page, file, out, notes)
+}
+
+// The strict way.
 pub fn strict(
     page: u32,
     file: &[u8],
@@ -99,96 +125,64 @@ pub fn strict(
 ) -> Prepared
     ensures { PreparedAs page file.now transfer.now cheque.now out.old notes.old result out.new notes.new }
 {
-    let exists = charset::is_page(page);
-    if !exists {
-        return refusal(7, 0);
-    }
-    let found = judge::examine(page, file, transfer, cheque);
-    let number = found.number;
-    if number != 0 {
-        return refusal(number, found.rec);
-    }
-    send(page, file, out, notes)
+    let terms = Terms {
+        page,
+        transfer,
+        cheque,
+    };
+    Prepared::from(strictly(&terms, file, out, notes))
 }
 
-// What room the kept file lacks: 60, then 61, then 63; or 0.
-fn room_missing(sorted: Sorted, bytes: usize, places: usize, names: usize) -> usize
-    requires { sorted.payments.kept ≤ 9999 }
-    ensures { result ≡ room_missing sorted bytes places names }
+// What room the kept file lacks: 60, then 61, then 63.
+fn room_missing(going: Going, bytes: usize, places: usize, names: usize) -> Result<(), Refusal>
+    requires { going.payments.kept ≤ 9999 }
+    ensures { let missing = room_missing (sorted_of (Ok going)) bytes places names in MatchResult result (λ _. missing ≡ 0) (λ why. Short why missing) }
 {
-    let payments = sorted.payments;
-    let length = 512 + 768 * (payments.kept as usize);
-    if bytes < length {
-        return 60;
-    }
-    if places < sorted.notes {
-        return 61;
-    }
-    if (names as u64) < payments.returned {
-        return 63;
-    }
-    0
-}
-
-// The kept payments of a file that was sorted, and the names of the others.
-fn send_kept(
-    page: u32,
-    file: &[u8],
-    sorted: Sorted,
-    transfer: &[u8],
-    cheque: &[u8],
-    out: &mut [u8],
-    notes: &mut [u32],
-    list: &mut [u32],
-)
-    requires { CanSend page file.now (sorted.payments.kept + sorted.payments.returned) transfer.now cheque.now sorted.payments.kept sorted.euros.kept out.old notes.old list.old }
-    ensures { FileSent page file.now transfer.now cheque.now out.old notes.old list.old out.new notes.new list.new }
-{
-    let payments = sorted.payments;
-    let euros = sorted.euros;
-    let kept = payments.kept;
-    let sum = euros.kept;
-    let n = (kept + payments.returned) as usize;
-    sending::file(page, file, n, transfer, cheque, kept, sum, out, notes, list);
+    let length = 512 + 768 * (going.payments.kept as usize);
+    room(length, bytes, Refusal::OutputRoom)?;
+    room(going.notes, places, Refusal::NoteRoom)?;
+    room(going.payments.returned as usize, names, Refusal::ListRoom)
 }
 
 // Sorting's refusals, then 60, 61 and 63; then the payments that are kept go on, and the others are named.
 fn sort_and_send(
-    page: u32,
+    terms: &Terms<'_>,
     file: &[u8],
-    transfer: &[u8],
-    cheque: &[u8],
     out: &mut [u8],
     notes: &mut [u32],
     list: &mut [u32],
-) -> Sorted
-    ensures { DefaultAs page file.now transfer.now cheque.now out.old notes.old list.old result out.new notes.new list.new }
+) -> Result<Going, Refusal>
+    ensures { DefaultAs terms.now.page file.now terms.now.transfer.now terms.now.cheque.now out.old notes.old list.old (sorted_of result) out.new notes.new list.new }
 {
-    let sorted = sorting::sort(page, file, transfer, cheque);
-    let number = sorted.number;
-    if number != 0 {
-        return sorted;
-    }
-    let short = room_missing(sorted, out.len(), notes.len(), list.len());
-    if short != 0 {
-        return sorting::refusal(short, 0);
-    }
-    send_kept(page, file, sorted, transfer, cheque, out, notes, list);
-    sorted
+    let going = sorting::sort(terms, file)?;
+    room_missing(going, out.len(), notes.len(), list.len())?;
+    sending::file(terms, file, going, out, notes, list);
+    Ok(going)
 }
 
-// The answer of a sound file, by what sending it answered: all of it goes on, or nothing.
-fn whole(verdict: Verdict, sent: Prepared) -> Sorted
-    ensures { result ≡ whole_by verdict sent }
+// A sound file has nothing to return and goes on whole, as the strict way sends it; any other is sorted.
+fn by_default(
+    terms: &Terms<'_>,
+    file: &[u8],
+    out: &mut [u8],
+    notes: &mut [u32],
+    list: &mut [u32],
+) -> Result<Going, Refusal>
+    ensures { DefaultAs terms.now.page file.now terms.now.transfer.now terms.now.cheque.now out.old notes.old list.old (sorted_of result) out.new notes.new list.new }
 {
-    let number = sent.number;
-    if number != 0 {
-        return sorting::refusal(number, sent.rec);
+    if !charset::is_page(terms.page) {
+        return Err(Refusal::NoSuchPage);
     }
-    sorting::whole(verdict.payments, verdict.euros, sent.notes)
+    match judge::examine(terms, file) {
+        Ok(sound) => {
+            let changes = send(terms.page, file, out, notes)?;
+            Ok(sorting::whole(sound.payments, sound.euros, changes))
+        }
+        Err(_) => sort_and_send(terms, file, out, notes, list),
+    }
 }
 
-// The default way. A sound file has nothing to return and goes on whole, as the strict way sends it; any other is sorted.
+// The default way.
 pub fn prepare(
     page: u32,
     file: &[u8],
@@ -200,15 +194,10 @@ pub fn prepare(
 ) -> Sorted
     ensures { DefaultAs page file.now transfer.now cheque.now out.old notes.old list.old result out.new notes.new list.new }
 {
-    let exists = charset::is_page(page);
-    if !exists {
-        return sorting::refusal(7, 0);
-    }
-    let verdict = judge::examine(page, file, transfer, cheque);
-    let broken = verdict.number;
-    if broken != 0 {
-        return sort_and_send(page, file, transfer, cheque, out, notes, list);
-    }
-    let sent = send(page, file, out, notes);
-    whole(verdict, sent)
+    let terms = Terms {
+        page,
+        transfer,
+        cheque,
+    };
+    Sorted::from(by_default(&terms, file, out, notes, list))
 }

@@ -1,9 +1,10 @@
 -- The course of a reading, byte by byte: after the first bytes of the joined ones, what the whole records among them have
 -- shown, and the bytes of the unfinished one; or the first record that the walk cannot pass.
-use Rattle.std.proofs.Common.{ℕ, zero, suc, ◌+◌, ◌*◌, ◌-◌, ◌≤◌, ◌<◌, List, [], ◌∷◌, ◌++◌, arith, eqb-true, ◌≡◌, Bool, cond, ◌⊎◌, refl, sym, ap, subst, ap₂, ◌∙◌, inr, ⊎_elim, eq-or-lt_of_le, length-append, drop-drop, take-suc, get_or-drop, true, false, inl, eqb, lit≤, lit<, length, take, drop, get_or, length-take, length-drop}
+use Rattle.std.proofs.Common.{ℕ, zero, suc, ◌+◌, ◌-◌, ◌≤◌, ◌<◌, List, [], ◌∷◌, ◌++◌, arith, eqb-true, ◌≡◌, Bool, cond, ◌⊎◌, refl, sym, ap, subst, ap₂, ◌∙◌, inr, ⊎_elim, eq-or-lt_of_le, length-append, drop-drop, take-suc, get_or-drop, true, false, inl, eqb, lit≤, lit<, length, take, drop, get_or, length-take, length-drop}
 use Prim.Native.Char.{code}
 use Rattle.std.proofs.lemmas.Bool.{eqb-false}
 use Rattle.std.proofs.Math.Seq.{drop-append_seam}
+use Rattle.std.proofs.lemmas.Bool.Decides.{nat_tests}
 use Rattle.laws.specs.Choice.{on_eq, off_eq, on_lt, off_lt}
 use Rattle.records.specs.Places.{record_at}
 use Rattle.structure.specs.Slots.{width_at, slot_at, place_is, later_width}
@@ -11,7 +12,6 @@ use Rattle.structure.specs.Walk.{letter_of, fault_in}
 use Rattle.structure.specs.Whole.{WholeSlot, whole, letter_q}
 use Rattle.structure.specs.Fits.{WalksOn, Reached}
 use Rattle.tally.specs.declared.Tally.{Tally}
-use Rattle.tally.specs.Record.{q_width}
 use Rattle.tally.specs.Settle.{fresh, stop_at, stopped, with_q, with_t, settle_of, Steady, steady_settle, settled_stop, settled_q, settled_t}
 use Rattle.reader.specs.Cuts.{Cut, joined, holding, completing}
 use Rattle.reader.specs.State.{Mid, mid, push, eat}
@@ -19,11 +19,7 @@ use Rattle.reader.specs.Eats.{width_pos}
 
 -- record k + 1 stands after record k
 pub next_place : (k : ℕ) → record_at (k + 1) ≡ record_at k + width_at k
-next_place k = place_is (k + 1) ∙ go (eqb k 0) refl
-  where
-    go : (b : Bool) → eqb k 0 ≡ b → 768 * (k + 1) - 512 ≡ record_at k + width_at k
-    go true e = omega (arith, place_is k, q_width k (eqb-true k 0 e), eqb-true k 0 e)
-    go false e = omega (arith, place_is k, later_width k (omega (arith, eqb-false k 0 e)), eqb-false k 0 e)
+next_place k = grind (arith, nat_tests, place_is)
 
 module _ (page : ℕ) (cuts : List Cut) where
   -- what the first k records show, each by the lists of the cut that completes it
@@ -100,11 +96,7 @@ module _ (page : ℕ) (cuts : List Cut) where
   full_goes k z l = record { right = right; no_z = no_z (eqb k 0) refl }
     where
       right : fault_in k (slot_at file k) ≡ 0
-      right = go (eqb k 10000) z
-        where
-          go : (b : Bool) → ◌≡◌ {A = ℕ} (cond b 1 (fault_in k (slot_at file k))) 0 → fault_in k (slot_at file k) ≡ 0
-          go true e = absurd (omega arith)
-          go false e = e
+      right = grind (arith, nat_tests)
 
       w : WholeSlot k (slot_at file k)
       w = whole k (slot_at file k) right

@@ -1,12 +1,10 @@
 -- What the first records of the joined bytes show: sums, the file's number, the key, the changes, and the first broken rule.
-use Rattle.std.proofs.Common.{ℕ, zero, suc, ◌+◌, ◌*◌, ◌-◌, ◌≤◌, ◌<◌, List, [], arith, eqb-true, ne_eqb, le-leb, ◌≡◌, Bool, leb, length, drop, replicate, refl, sym, ap, ap₂, subst, ◌∙◌, true, false, cond, eqb, take}
-use Rattle.std.proofs.lemmas.Bool.{eqb-false, lt-leb}
+use Rattle.std.proofs.Common.{ℕ, zero, suc, ◌+◌, ◌*◌, ◌-◌, ◌≤◌, List, [], arith, ◌≡◌, length, drop, replicate, refl, sym, ap, ap₂, subst, ◌∙◌, take}
+use Rattle.std.proofs.lemmas.Bool.Decides.{nat_tests}
 use Rattle.laws.specs.Choice.{off_eq}
 use Rattle.laws.specs.Scan.{run, from}
 use Rattle.records.specs.Places.{record_at}
 use Rattle.payments.specs.Rules.{key_of}
-use Rattle.payments.specs.Faults.{t_fault}
-use Rattle.rules.specs.Faults.{q_fault, z_fault}
 use Rattle.structure.specs.Slots.{slot_at, width_at, place_is, later_width}
 use Rattle.structure.specs.Fits.{Fit}
 use Rattle.judge.specs.First.{none, first_broken}
@@ -92,36 +90,21 @@ module _ (page : ℕ) (cuts : List Cut) where
     of_record : (key : List ℕ) → k ≤ n → ((k ≡ 0 → ⊥) → key ≡ key_of (slot_at file 1))
         → slot_fault page t ch key k 0 (slot_at file k) k rule ≡ fault_of page file n e t ch k rule
     unfolding slot_fault fault_of
-    of_record key h same = go (eqb k 0) refl
-      where
-        go : (b : Bool) → eqb k 0 ≡ b
-            → cond b (q_fault page (slot_at file k) rule) (cond (leb k k) (t_fault page t ch key (slot_at file k) rule) (z_fault k 0 (slot_at file k) rule))
-            ≡ cond b (q_fault page (slot_at file 0) rule)
-            (cond (leb k n) (t_fault page t ch (key_of (slot_at file 1)) (slot_at file k) rule) (z_fault n e (slot_at file k) rule))
-        go true q = ap (λ (j : ℕ). q_fault page (slot_at file j) rule) (eqb-true k 0 q)
-        go false q =
-            let low : k ≤ k = omega arith in
-            rw (le-leb k k low, le-leb k n h) (ap (λ (x : List ℕ). t_fault page t ch x (slot_at file k) rule) (same (eqb-false k 0 q)))
+    of_record key h same = grind (arith, nat_tests)
 
     of_z : (key : List ℕ) → k ≡ n + 1 → slot_fault page [] [] key n e (slot_at file k) k rule ≡ fault_of page file n e t ch k rule
     unfolding slot_fault fault_of
-    of_z key h =
-        let l : n < k = omega arith in
-        rw (ne_eqb k 0 (λ (q : k ≡ 0). omega arith), lt-leb k n l)
+    of_z key h = grind (arith, nat_tests)
 
   module _ (n e : ℕ) where
     abbrev F : ℕ → ℕ → ℕ
     F = read_fault page cuts n e
 
     same_from : (k : ℕ) → k ≤ n → rule_from k k ≡ rule_from n k
-    same_from k h =
-        let low : k ≤ k = omega arith in
-        rw (le-leb k k low, le-leb k n h)
+    same_from k h = grind (arith, nat_tests)
 
     same_end : (k : ℕ) → k ≤ n → rule_end k k ≡ rule_end n k
-    same_end k h =
-        let low : k ≤ k = omega arith in
-        rw (le-leb k k low, le-leb k n h)
+    same_end k h = grind (arith, nat_tests)
 
     breach_is : (k : ℕ) (key : List ℕ) → k ≤ n → ((k ≡ 0 → ⊥) → key ≡ key_of (slot_at file 1))
         → breach_in page (completing cuts k).transfer (completing cuts k).cheque key k 0 (slot_at file k) k ≡ breach_at F (rule_from n) (rule_end n) k

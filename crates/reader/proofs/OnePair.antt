@@ -1,12 +1,9 @@
 -- With one pair of lists throughout, a reading means what the judge says of the joined bytes.
-use Rattle.std.proofs.Common.{ℕ, ◌+◌, ◌*◌, ◌-◌, ◌≤◌, ◌<◌, List, [], ◌∷◌, ◌≡◌, Bool, true, false, eqb, ltb, leb, length, refl, ap, ap₂, arith, ltb-false, leb-true, length-append, cond}
-use Rattle.std.proofs.lemmas.Bool.{eqb-false}
+use Rattle.std.proofs.Common.{ℕ, ◌+◌, ◌*◌, ◌-◌, ◌≤◌, ◌<◌, List, [], ◌∷◌, ◌≡◌, Bool, true, false, ltb, length, refl, ap, arith, ltb-false, length-append, cond}
+use Rattle.std.proofs.lemmas.Bool.Decides.{nat_tests}
 use Rattle.charset.specs.Table.{is_page}
-use Rattle.rules.specs.Faults.{q_fault, z_fault}
-use Rattle.payments.specs.Faults.{t_fault}
-use Rattle.payments.specs.Rules.{key_of}
 use Rattle.records.specs.Places.{record_at}
-use Rattle.structure.specs.Slots.{slot_at, place_is}
+use Rattle.structure.specs.Slots.{place_is}
 use Rattle.structure.specs.Walk.{structure_of}
 use Rattle.structure.specs.Fits.{fits}
 use Rattle.structure.specs.Shape.{Shape, Fits, Refused}
@@ -35,18 +32,7 @@ held_with t ch (cut ∷ cuts) w place h = go (ltb place (length cut.bytes)) refl
 same_fault : (page : ℕ) (file : List ℕ) (n e k rule : ℕ) {t ch u ch' : List ℕ} → (1 ≤ k → k ≤ n → (t ≡ u) × (ch ≡ ch'))
     → fault_of page file n e t ch k rule ≡ fault_of page file n e u ch' k rule
 unfolding fault_of
-same_fault page file n e k rule {t} {ch} {u} {ch'} h = go (eqb k 0) (leb k n) refl refl
-  where
-    go : (a b : Bool) → eqb k 0 ≡ a → leb k n ≡ b
-        → cond a (q_fault page (slot_at file 0) rule)
-        (cond b (t_fault page t ch (key_of (slot_at file 1)) (slot_at file k) rule) (z_fault n e (slot_at file k) rule))
-        ≡ cond a (q_fault page (slot_at file 0) rule)
-        (cond b (t_fault page u ch' (key_of (slot_at file 1)) (slot_at file k) rule) (z_fault n e (slot_at file k) rule))
-    go true b p q = refl
-    go false false p q = refl
-    go false true p q =
-        let same = h (omega (arith, eqb-false k 0 p)) (leb-true k n q) in
-        ap₂ (λ (x y : List ℕ). t_fault page x y (key_of (slot_at file 1)) (slot_at file k) rule) same.0 same.1
+same_fault page file n e k rule h = grind (arith, nat_tests)
 
 module _ (page : ℕ) (cuts : List Cut) (t ch : List ℕ) (w : LentWith t ch cuts) where
   content_with : (n e : ℕ) → length (joined cuts) ≡ 512 + 768 * n → read_content page cuts n e ≡ content_of page (joined cuts) n e t ch

@@ -1,6 +1,7 @@
 -- Laws of feeding: any cuts, a stopped walk, a short piece, a whole record.
-use Rattle.std.proofs.Common.{ℕ, ◌+◌, ◌-◌, ◌≤◌, ◌<◌, ◌≡◌, Bool, true, false, cond, length, take, drop, ltb, eqb, refl, ap, List, [], ◌∷◌, ◌++◌, append-nil, append_assoc, sym, ◌∙◌, arith, ltb-false, eqb-true, length-append, length-take, length-drop, take-append-drop, drop-drop, take_all, lit≤, lit<}
-use Rattle.laws.specs.Choice.{on_eq, off_eq, either}
+use Rattle.std.proofs.Common.{ℕ, ◌+◌, ◌-◌, ◌≤◌, ◌<◌, ◌≡◌, cond, length, take, drop, ltb, eqb, refl, ap, List, [], ◌∷◌, ◌++◌, append-nil, append_assoc, sym, ◌∙◌, arith, length-append, length-take, length-drop, take-append-drop, drop-drop, take_all}
+use Rattle.std.proofs.lemmas.Bool.Decides.{nat_tests}
+use Rattle.laws.specs.Choice.{on_eq, off_eq}
 use Rattle.structure.specs.Slots.{width_at}
 use Rattle.forwarding.specs.Put.{put, put_none, put_put_at}
 use Rattle.tally.specs.declared.Tally.{Tally}
@@ -9,10 +10,10 @@ use Rattle.reader.specs.declared.Reader.{Reader}
 use Rattle.reader.specs.State.{Mid, mid, push, eat, pending, view, packed}
 
 pub width_le : (k : ℕ) → width_at k ≤ 768
-width_le k = either (λ (n : ℕ). n ≤ 768) (eqb k 0) 256 768 (lit≤ tt) (lit≤ tt)
+width_le k = grind (arith, nat_tests)
 
 pub width_pos : (k : ℕ) → 0 < width_at k
-width_pos k = either (λ (n : ℕ). 0 < n) (eqb k 0) 256 768 (lit< tt) (lit< tt)
+width_pos k = grind (arith, nat_tests)
 
 length_snoc : (p : List ℕ) (x : ℕ) → length (p ++ (x ∷ [])) ≡ length p + 1
 length_snoc p x = length-append p (x ∷ [])
@@ -74,20 +75,10 @@ ready_of stop next left = cond (eqb stop 0) (cond (ltb left (width_at next)) 0 (
 
 module _ (stop k left w : ℕ) (e : w ≡ ready_of stop k left) where
   pub ready_go : (w ≡ 0 → ⊥) → (stop ≡ 0) × (w ≡ width_at k)
-  ready_go h = by (eqb stop 0) (ltb left (width_at k)) refl e
-    where
-      by : (a b : Bool) → eqb stop 0 ≡ a → w ≡ cond a (cond b 0 (width_at k)) 0 → (stop ≡ 0) × (w ≡ width_at k)
-      by false b p e = absurd (h e)
-      by true true p e = absurd (h e)
-      by true false p e = (eqb-true stop 0 p, e)
+  ready_go h = grind (arith, nat_tests)
 
   pub ready_le : w ≤ left
-  ready_le = by (eqb stop 0) (ltb left (width_at k)) refl e
-    where
-      by : (a b : Bool) → ltb left (width_at k) ≡ b → w ≡ cond a (cond b 0 (width_at k)) 0 → w ≤ left
-      by false b q e = omega arith
-      by true true q e = omega arith
-      by true false q e = omega (arith, ltb-false left (width_at k) q)
+  ready_le = grind (arith, nat_tests)
 
 -- of a cut, from the start of a record on: the records up to place `at` were settled, and no more lie whole in it
 pub record Ate (page : ℕ) (transfer cheque : List ℕ) (first : Tally) (cut : List ℕ) (tally : Tally) (at : ℕ) : Type 0 where
@@ -125,11 +116,11 @@ module _ (r : Reader) (long : length r.held ≡ 768) (low : r.have ≤ 768) wher
       ∙ rw z at (put_put_at 0 r.have (pending r) cut r.held pending_long (omega arith))
 
 -- the rest of a cut, from the start of a record on
-module _ (t ch : List ℕ) (r : Reader) (first : Tally) (cut : List ℕ) {tally : Tally} {at : ℕ}
-    (ate : Ate r.page t ch first cut tally at) where
+module _ {page : ℕ} (t ch : List ℕ) (r : Reader) (first : Tally) (cut : List ℕ) {tally : Tally} {at : ℕ}
+    (ate : Ate page t ch first cut tally at) where
   pub rest_stopped : (tally.stop ≡ 0 → ⊥)
       → record { page = r.page; ended = r.ended; bytes = r.bytes; tally = tally; answer = r.answer; have = 0; held = r.held }
-      ≡ packed r (eat r.page t ch (mid first []) cut)
+      ≡ packed r (eat page t ch (mid first []) cut)
   rest_stopped n =
       (λ i. record {
         page = r.page;
@@ -140,11 +131,11 @@ module _ (t ch : List ℕ) (r : Reader) (first : Tally) (cut : List ℕ) {tally 
         have = 0;
         held = sym (put_none 0 r.held) i;
       })
-      ∙ ap (packed r) (sym (ate.same ∙ eat_stopped r.page t ch (mid tally []) n (drop at cut)))
+      ∙ ap (packed r) (sym (ate.same ∙ eat_stopped page t ch (mid tally []) n (drop at cut)))
 
   pub rest_held : {held : List ℕ} → tally.stop ≡ 0 → held ≡ put 0 (take (length cut - at) (drop at cut)) r.held
       → record { page = r.page; ended = r.ended; bytes = r.bytes; tally = tally; answer = r.answer; have = length cut - at; held = held }
-      ≡ packed r (eat r.page t ch (mid first []) cut)
+      ≡ packed r (eat page t ch (mid first []) cut)
   rest_held {held} z e =
       let l = length-drop at cut in
       let all : take (length cut - at) (drop at cut) ≡ drop at cut = take_all (length cut - at) (drop at cut) (omega arith) in
@@ -157,16 +148,16 @@ module _ (t ch : List ℕ) (r : Reader) (first : Tally) (cut : List ℕ) {tally 
         have = sym l i;
         held = (e ∙ ap (λ (xs : List ℕ). put 0 xs r.held) all) i;
       })
-      ∙ ap (packed r) (sym (ate.same ∙ eat_short r.page t ch tally z [] (drop at cut) (omega (arith, ate.short z))))
+      ∙ ap (packed r) (sym (ate.same ∙ eat_short page t ch tally z [] (drop at cut) (omega (arith, ate.short z))))
 
 -- a cut, by the ways through the code
-module _ (t ch : List ℕ) (r : Reader) (long : length r.held ≡ 768) (low : r.have ≤ 768) (cut : List ℕ) where
-  pub eats_stopped : (r.tally.stop ≡ 0 → ⊥) → r ≡ packed r (eat r.page t ch (view r) cut)
-  eats_stopped n = stays r long low ∙ ap (packed r) (sym (eat_stopped r.page t ch (view r) n cut))
+module _ (page : ℕ) (t ch : List ℕ) (r : Reader) (long : length r.held ≡ 768) (low : r.have ≤ 768) (cut : List ℕ) where
+  pub eats_stopped : (r.tally.stop ≡ 0 → ⊥) → r ≡ packed r (eat page t ch (view r) cut)
+  eats_stopped n = stays r long low ∙ ap (packed r) (sym (eat_stopped page t ch (view r) n cut))
 
   pub eats_held : {held : List ℕ} → r.tally.stop ≡ 0 → r.have + length cut < width_at r.tally.next → held ≡ put r.have cut r.held
       → record { page = r.page; ended = r.ended; bytes = r.bytes; tally = r.tally; answer = r.answer; have = r.have + length cut; held = held }
-      ≡ packed r (eat r.page t ch (view r) cut)
+      ≡ packed r (eat page t ch (view r) cut)
   eats_held {held} z h e =
       let l = pending_long r long low in
       let w = width_le r.tally.next in
@@ -179,16 +170,16 @@ module _ (t ch : List ℕ) (r : Reader) (long : length r.held ≡ 768) (low : r.
         have = sym (length-append (pending r) cut ∙ ap (λ (n : ℕ). n + length cut) l) i;
         held = (e ∙ holds r long low cut (omega arith)) i;
       })
-      ∙ ap (packed r) (sym (eat_short r.page t ch r.tally z (pending r) cut (omega arith)))
+      ∙ ap (packed r) (sym (eat_short page t ch r.tally z (pending r) cut (omega arith)))
 
   pub eats_full : {first : Tally} {need : ℕ} {next : Reader} → r.tally.stop ≡ 0 → r.have + need ≡ width_at r.tally.next
-      → need ≤ length cut → 0 < need → first ≡ settle_of r.page t ch r.tally (pending r ++ take need cut)
-      → next ≡ packed r (eat r.page t ch (mid first []) (drop need cut)) → next ≡ packed r (eat r.page t ch (view r) cut)
+      → need ≤ length cut → 0 < need → first ≡ settle_of page t ch r.tally (pending r ++ take need cut)
+      → next ≡ packed r (eat page t ch (mid first []) (drop need cut)) → next ≡ packed r (eat page t ch (view r) cut)
   eats_full {first} {need} {next} z h l pos f e =
       e
       ∙ ap (packed r)
-      (ap (λ (c : Tally). eat r.page t ch (mid c []) (drop need cut)) f
+      (ap (λ (c : Tally). eat page t ch (mid c []) (drop need cut)) f
       ∙ sym
-      (eat_slot r.page t ch r.tally z (pending r) (take need cut) (drop need cut) (omega (arith, length-take need cut))
+      (eat_slot page t ch r.tally z (pending r) (take need cut) (drop need cut) (omega (arith, length-take need cut))
       (omega (arith, length-take need cut, pending_long r long low)))
-      ∙ ap (eat r.page t ch (view r)) (take-append-drop need cut))
+      ∙ ap (eat page t ch (view r)) (take-append-drop need cut))

@@ -11,6 +11,7 @@ ghost use Rattle.reader.specs.State.{answer_in, counted_of, in_order, mid, view,
 ghost use Rattle.reader.specs.Eats.{ready_of, Ate};
 
 use judge::{Refusal, Totals, Verdict};
+use payments::Terms;
 use structure::{Fault, Misfit};
 use tally::Tally;
 
@@ -79,23 +80,15 @@ fn hold(mut held: [u8; 768], have: usize, more: &[u8]) -> [u8; 768]
 }
 
 // A record across cuts: what was held of it, and the head of this cut.
-fn across(
-    page: u32,
-    tally: Tally,
-    held: [u8; 768],
-    have: usize,
-    head: &[u8],
-    transfer: &[u8],
-    cheque: &[u8],
-) -> Tally
+fn across(terms: &Terms<'_>, tally: Tally, held: [u8; 768], have: usize, head: &[u8]) -> Tally
     requires { Steady tally × (have + length head.now ≡ width_at tally.next) }
-    ensures { result ≡ settle_of page transfer.now cheque.now tally (take have held ++ head.now) }
+    ensures { result ≡ settle_of terms.now.page terms.now.transfer.now terms.now.cheque.now tally (take have held ++ head.now) }
 {
     if have == 0 {
-        return tally.settle(page, head, transfer, cheque);
+        return tally.settle(terms, head);
     }
     let whole = hold(held, have, head);
-    tally.settle(page, &whole[..have + head.len()], transfer, cheque)
+    tally.settle(terms, &whole[..have + head.len()])
 }
 
 // What the records that lie whole in a cut have shown, and where the last of them ends.
@@ -106,14 +99,14 @@ struct Along {
 }
 
 // From the start of a record on: each record that lies whole in the cut is judged where it lies.
-fn whole_records(page: u32, mut tally: Tally, cut: &[u8], transfer: &[u8], cheque: &[u8]) -> Along
+fn whole_records(terms: &Terms<'_>, mut tally: Tally, cut: &[u8]) -> Along
     requires { Steady tally }
-    ensures { Ate page transfer.now cheque.now tally cut.now result.tally result.at }
+    ensures { Ate terms.now.page terms.now.transfer.now terms.now.cheque.now tally cut.now result.tally result.at }
 {
     let mut at = 0;
     while let Some(width) = ready(tally.stop, tally.next, cut.len() - at) {
         let end = at + width;
-        tally = tally.settle(page, &cut[at..end], transfer, cheque);
+        tally = tally.settle(terms, &cut[at..end]);
         at = end;
     }
     Along { tally, at }
@@ -156,11 +149,11 @@ impl Reader {
     }
 
     // The rest of a cut, from the start of a record on: what lies whole in it is settled, and what is left is held.
-    fn rest(mut self, first: Tally, cut: &[u8], transfer: &[u8], cheque: &[u8]) -> Self
+    fn rest(mut self, terms: &Terms<'_>, first: Tally, cut: &[u8]) -> Self
         requires { Steady first }
-        ensures { result ≡ packed self (eat self.page transfer.now cheque.now (mid first []) cut.now) }
+        ensures { result ≡ packed self (eat terms.now.page terms.now.transfer.now terms.now.cheque.now (mid first []) cut.now) }
     {
-        let done = whole_records(self.page, first, cut, transfer, cheque);
+        let done = whole_records(terms, first, cut);
         self.tally = done.tally;
         if self.tally.stop != 0 {
             self.have = 0;
@@ -172,9 +165,9 @@ impl Reader {
         self
     }
 
-    fn eat(mut self, cut: &[u8], transfer: &[u8], cheque: &[u8]) -> Self
+    fn eat(mut self, terms: &Terms<'_>, cut: &[u8]) -> Self
         requires { Steady self.tally × (self.have < width_at self.tally.next) }
-        ensures { result ≡ packed self (eat self.page transfer.now cheque.now (view self) cut.now) }
+        ensures { result ≡ packed self (eat terms.now.page terms.now.transfer.now terms.now.cheque.now (view self) cut.now) }
     {
         if self.tally.stop != 0 {
             return self;
@@ -185,10 +178,8 @@ impl Reader {
             self.have += cut.len();
             return self;
         };
-        let first = across(
-            self.page, self.tally, self.held, self.have, head, transfer, cheque,
-        );
-        self.rest(first, rest, transfer, cheque)
+        let first = across(terms, self.tally, self.held, self.have, head);
+        self.rest(terms, first, rest)
     }
 
     // A cut, with the lists by which the records that it completes are judged.
@@ -203,7 +194,12 @@ impl Reader {
             return self;
         }
         self.bytes = counted(self.bytes, cut.len());
-        self.eat(cut, transfer, cheque)
+        let terms = Terms {
+            page: self.page,
+            transfer,
+            cheque,
+        };
+        self.eat(&terms, cut)
     }
 
     #[tactic(auto, unfolding(crate::specs::State::judged_of))]

@@ -120,20 +120,6 @@ impl Q {
 
     pub const LENGTH: usize = 256;
 
-    pub fn place(field: QField) -> Span
-        ensures { result ≡ q_place field }
-    {
-        field.place()
-    }
-
-    // The bytes of a field.
-    pub fn field(rec: &[u8], field: QField) -> &[u8]
-        requires { length rec.now ≡ 256 }
-        ensures { Held (q_place field) rec.now result.now }
-    {
-        part(rec, Q::place(field))
-    }
-
     // The place of text field k; an empty place where a Q record has none of that number.
     pub fn text(k: usize) -> Span
         ensures { result ≡ q_text k }
@@ -231,20 +217,6 @@ impl T {
 
     pub const LENGTH: usize = 768;
 
-    pub fn place(field: TField) -> Span
-        ensures { result ≡ t_place field }
-    {
-        field.place()
-    }
-
-    // The bytes of a field.
-    pub fn field(rec: &[u8], field: TField) -> &[u8]
-        requires { length rec.now ≡ 768 }
-        ensures { Held (t_place field) rec.now result.now }
-    {
-        part(rec, T::place(field))
-    }
-
     // The place of text field k; an empty place where a T record has none of that number.
     pub fn text(k: usize) -> Span
         ensures { result ≡ t_text k }
@@ -294,18 +266,4 @@ impl Z {
     pub const LETTER: u8 = b'Z';
 
     pub const LENGTH: usize = 256;
-
-    pub fn place(field: ZField) -> Span
-        ensures { result ≡ z_place field }
-    {
-        field.place()
-    }
-
-    // The bytes of a field.
-    pub fn field(rec: &[u8], field: ZField) -> &[u8]
-        requires { length rec.now ≡ 256 }
-        ensures { Held (z_place field) rec.now result.now }
-    {
-        part(rec, Z::place(field))
-    }
 }

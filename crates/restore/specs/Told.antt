@@ -1,49 +1,43 @@
 -- The answer and the output by what the call found: the page, the room, the verdict, what is left to replace, and the notes.
-use Rattle.std.specs.Prelude.{ℕ, ◌+◌, ◌≤◌, ◌<◌, ◌≡◌, refl, Bool, true, false, not, ◌&&◌, List, [], ◌++◌, eqb, length, drop}
-use Rattle.std.proofs.Math.Path.{sym, ap}
-use Rattle.std.proofs.Common.{◌∙◌, arith, eq-eqb, ne_eqb, length-append}
-use Rattle.std.proofs.lemmas.Bool.{not-true, not-false}
-use Rattle.laws.specs.Choice.{on, off, off_eq, on_lt, off_lt, on_not, off_not, both}
+use Rattle.std.specs.Prelude.{ℕ, ◌+◌, ◌≤◌, ◌<◌, ◌≡◌, refl, Bool, true, false, ◌&&◌, List, [], ◌++◌, eqb, length, drop, Result, Ok, Err, IfErr, is_ok}
+use Rattle.std.proofs.Common.{sym, ap, ◌∙◌, arith, ne_eqb, length-append}
+use Rattle.laws.specs.Choice.{on, off, off_eq, on_lt, off_lt, on_call, off_call, both}
 use Rattle.charset.specs.Table.{is_page, rep, rep_rep}
+use Rattle.judge.specs.Refusal.{number_of, verdict_in}
 use Rattle.judge.specs.Verdict.{verdict_of}
-use Rattle.judge.specs.declared.Verdict.{Verdict}
+use Rattle.judge.specs.declared.Refusal.{Refusal}
+use Rattle.judge.specs.declared.Totals.{Totals}
 use Rattle.forwarding.specs.Text.{text_at}
 use Rattle.forwarding.specs.Forwarded.{notes_of}
 use Rattle.forwarding.specs.Merge.{original_of, is_pair}
 use Rattle.forwarding.specs.Put.{put}
 use Rattle.forwarding.specs.RoundTrip.{pair_alone}
+use Rattle.forwarding.specs.Sized.{Sized}
+use Rattle.prepare.specs.Outcome.{sound_sized}
 use Rattle.restore.specs.ByNotes.{notes_fit, put_notes, in_file, accepts_by_notes, merged_by_notes, notes_inside, inside_more, notes_in_front, notes_length}
 use Rattle.restore.specs.Restored.{answer, is_yielded, restore_by, restore_of, RestoredAs}
 use Rattle.restore.specs.declared.Restored.{Restored}
 
--- whether a sound file yields the pair: v is the verdict, none whether no character is left to replace, fit whether the notes
--- fit
+-- a file is sound where an examination finds no refusal
+pub sound_is : (found : Result Totals Refusal) → IfErr found (λ why. number_of why ≡ 0 → ⊥) → is_ok found ≡ eqb (verdict_in found).number 0
+sound_is (Ok t) real = refl
+sound_is (Err why) real = sym (ne_eqb _ _ real)
+
+pub sound_size : (page : ℕ) (g transfer cheque : List ℕ) (found : Result Totals Refusal) → verdict_in found ≡ verdict_of page g transfer cheque
+    → is_ok found ≡ true → Sized g
+sound_size page g transfer cheque (Ok t) e sound = sound_sized page g transfer cheque e refl
+sound_size page g transfer cheque (Err why) e sound = cc
+
+-- whether a sound file yields the pair: it is sound, no character is left to replace, and the notes fit
 module _ (page : ℕ) (g ns transfer cheque : List ℕ) where
   pair_is : is_pair page g ns ≡ is_pair page g [] && notes_fit (rep page) (text_at (length g)) g 0 ns
   unfolding is_pair
   pair_is = accepts_by_notes (rep page) (text_at (length g)) g (rep_rep page) ns
 
-  module _ {v : Verdict} (e : v ≡ verdict_of page g transfer cheque) where
-    number_is : v.number ≡ (verdict_of page g transfer cheque).number
-    number_is = ap (λ (u : Verdict). u.number) e
-
-    pub by_verdict : (v.number ≡ 0 → ⊥) → false ≡ is_yielded page g ns transfer cheque
-    unfolding is_yielded
-    by_verdict z = sym (ap (λ (t : Bool). t && is_pair page g ns) (ne_eqb _ _ (λ q. z (number_is ∙ q))))
-
-    module _ (z : v.number ≡ 0) {none : Bool} (left : (p : ℕ) → none ≡ eqb (length (notes_of p g)) 0) where
-      yielded_is : {t : Bool} → none ≡ t → t && notes_fit (rep page) (text_at (length g)) g 0 ns ≡ is_yielded page g ns transfer cheque
-      unfolding is_yielded
-      yielded_is q =
-          let alone = pair_alone page g ∙ sym (left page) ∙ q in
-          ap (λ (t : Bool). t && notes_fit (rep page) (text_at (length g)) g 0 ns) (sym alone) ∙ sym pair_is
-          ∙ sym (ap (λ (t : Bool). t && is_pair page g ns) (eq-eqb _ _ (sym number_is ∙ z)))
-
-      pub by_changes : not none ≡ true → false ≡ is_yielded page g ns transfer cheque
-      by_changes q = yielded_is (not-true none q)
-
-      pub by_notes : {fit : Bool} → not none ≡ false → fit ≡ notes_fit (rep page) (text_at (length g)) g 0 ns → fit ≡ is_yielded page g ns transfer cheque
-      by_notes q f = f ∙ yielded_is (not-false none q)
+  pub yielded_is : is_yielded page g ns transfer cheque
+      ≡ eqb (verdict_of page g transfer cheque).number 0 && (eqb (length (notes_of page g)) 0 && notes_fit (rep page) (text_at (length g)) g 0 ns)
+  unfolding is_yielded
+  yielded_is = rw (pair_is, pair_alone page g)
 
   -- then the notes are about places of the file, and put back they give the original
   module _ (y : is_yielded page g ns transfer cheque ≡ true) where
@@ -66,14 +60,14 @@ module _ (page : ℕ) (g ns transfer cheque out : List ℕ) {there : Bool} (know
       → RestoredAs page g ns transfer cheque out (answer n) out
   keeps n z e = record { answer_is = e; out_is = off_eq _ z refl }
 
-  pub no_page : not there ≡ true → RestoredAs page g ns transfer cheque out (answer 7) out
+  pub no_page : there ≡ false → RestoredAs page g ns transfer cheque out (answer 7) out
   unfolding restore_of
-  no_page n = keeps 7 (λ z. omega arith) (off_not _ known n refl)
+  no_page n = keeps 7 (λ z. omega arith) (off_call _ known n refl)
 
-  module _ (named : not there ≡ false) where
+  module _ (named : there ≡ true) where
     on_page : {r : Restored} → r ≡ restore_by page g ns transfer cheque (length out) → r ≡ restore_of page g ns transfer cheque (length out)
     unfolding restore_of
-    on_page h = on_not (answer 7) known named h
+    on_page h = on_call (answer 7) known named h
 
     pub too_short : length out < length g → RestoredAs page g ns transfer cheque out (answer 60) out
     too_short h = keeps 60 (λ z. omega arith) (on_page (on_lt _ h refl))

@@ -6,8 +6,11 @@ ghost use Rattle.charset.specs.Table.{rep};
 ghost use Rattle.forwarding.specs.Text.{t_texts, lies, text_at};
 ghost use Rattle.forwarding.specs.Put.{put};
 ghost use Rattle.restore.specs.ByNotes.{fits, note_of, notes_fit, in_file, put_notes};
+ghost use Rattle.restore.specs.Answer.{restored_in};
 ghost use Rattle.restore.specs.Restored.{is_yielded, RestoredAs};
 
+use judge::Refusal;
+use payments::Terms;
 use records::{Q, Span, T, Z};
 
 // Number 0: restored. Else 7, 60 or 70. The record is always 0.
@@ -16,6 +19,20 @@ use records::{Q, Span, T, Z};
 pub struct Restored {
     pub number: usize,
     pub rec: usize,
+}
+
+impl From<Result<(), Refusal>> for Restored {
+    ghost from_gives = { λ given r. r ≡ restored_in given };
+
+    fn from(given: Result<(), Refusal>) -> Self {
+        match given {
+            Ok(()) => Self { number: 0, rec: 0 },
+            Err(why) => Self {
+                number: why.number(),
+                rec: why.rec(),
+            },
+        }
+    }
 }
 
 // A note: a place of the file, and the byte that stood there.
@@ -101,18 +118,13 @@ fn put_back(notes: &[u32], out: &mut [u8])
 }
 
 // Some sound file yields the pair: the forwarded file is sound, nothing is left to replace in it, and every note fits.
-fn is_yielded(page: u32, forwarded: &[u8], notes: &[u32], transfer: &[u8], cheque: &[u8]) -> bool
-    ensures { result ≡ is_yielded page forwarded.now notes.now transfer.now cheque.now }
+#[tactic(auto, using(crate::specs::Told::sound_is, crate::specs::Told::yielded_is))]
+fn is_yielded(terms: &Terms<'_>, forwarded: &[u8], notes: &[u32]) -> bool
+    ensures { result ≡ is_yielded terms.now.page forwarded.now notes.now terms.now.transfer.now terms.now.cheque.now }
 {
-    let found = judge::examine(page, forwarded, transfer, cheque);
-    let number = found.number;
-    if number != 0 {
-        return false;
-    }
-    if !count::nothing(forwarded) {
-        return false;
-    }
-    notes_fit(page, forwarded, notes)
+    judge::examine(terms, forwarded).is_ok()
+        && count::nothing(forwarded)
+        && notes_fit(terms.page, forwarded, notes)
 }
 
 // The forwarded file is copied to the front of the output, and the notes are put back there.
@@ -126,6 +138,27 @@ fn write(forwarded: &[u8], notes: &[u32], out: &mut [u8])
 
 // A page that does not exist is 7, before anything is read; then 60, then 70. Nothing is written before everything is
 // checked.
+fn give_back(
+    terms: &Terms<'_>,
+    forwarded: &[u8],
+    notes: &[u32],
+    out: &mut [u8],
+) -> Result<(), Refusal>
+    ensures { RestoredAs terms.now.page forwarded.now notes.now terms.now.transfer.now terms.now.cheque.now out.old (restored_in result) out.new }
+{
+    if !charset::is_page(terms.page) {
+        return Err(Refusal::NoSuchPage);
+    }
+    if out.len() < forwarded.len() {
+        return Err(Refusal::OutputRoom);
+    }
+    if is_yielded(terms, forwarded, notes) {
+        write(forwarded, notes, out);
+        return Ok(());
+    }
+    Err(Refusal::NoSuchPair)
+}
+
 pub fn restore(
     page: u32,
     forwarded: &[u8],
@@ -136,16 +169,10 @@ pub fn restore(
 ) -> Restored
     ensures { RestoredAs page forwarded.now notes.now transfer.now cheque.now out.old result out.new }
 {
-    let exists = charset::is_page(page);
-    if !exists {
-        return Restored { number: 7, rec: 0 };
-    }
-    if out.len() < forwarded.len() {
-        return Restored { number: 60, rec: 0 };
-    }
-    if is_yielded(page, forwarded, notes, transfer, cheque) {
-        write(forwarded, notes, out);
-        return Restored { number: 0, rec: 0 };
-    }
-    Restored { number: 70, rec: 0 }
+    let terms = Terms {
+        page,
+        transfer,
+        cheque,
+    };
+    Restored::from(give_back(&terms, forwarded, notes, out))
 }

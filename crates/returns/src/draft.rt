@@ -1,5 +1,5 @@
 // A file of three payments, of 100,50, 20,25 and 3,00, with one, two and one characters that the table changes.
-use drafts::{payment, put};
+use drafts::{payment, put_records};
 
 // Where its records begin.
 pub const FIRST: usize = 256;
@@ -38,19 +38,16 @@ pub const Z4: usize = 20;
 pub const Z5: usize = 35;
 
 pub fn three() -> [u8; 2816] {
-    let mut file = [32u8; 2816];
-    let mut at = put(&mut file, 0, &drafts::q());
-    at = put(&mut file, at, &payment(b"M&M STUDIO", 100, 50));
-    at = put(&mut file, at, &payment(b"A&B&C", 20, 25));
-    at = put(&mut file, at, &payment(b"M&M STUDIO", 3, 0));
-    put(&mut file, at, &drafts::z(123, 3));
+    let mut file = [b' '; 2816];
+    put_records(
+        &mut file,
+        &[
+            &drafts::q(),
+            &payment(b"M&M STUDIO", 100, 50),
+            &payment(b"A&B&C", 20, 25),
+            &payment(b"M&M STUDIO", 3, 0),
+            &drafts::z(123, 3),
+        ],
+    );
     file
-}
-
-// A file with a text written over it.
-pub fn with(file: &[u8; 2816], at: usize, text: &[u8]) -> [u8; 2816] {
-    let mut changed = [32u8; 2816];
-    put(&mut changed, 0, file);
-    put(&mut changed, at, text);
-    changed
 }

@@ -2,23 +2,19 @@
 // (A6). Where no page is told it is page 0.
 #![tactic(auto)]
 
-use drafts::tell_whether;
+use drafts::{tell_whether, untouched};
 use std::io;
 
 mod default_way;
 mod draft;
 mod filing;
 
-const LIST: [u8; 2] = *b"US";
-
-const PATTERN: u8 = 170;
-
-// Whether the output is as due. Where nothing is written, the pattern that it came with is due.
-fn tell_output(rt: &impl Print, written: bool, as_due: bool) -> io::Result<()> {
-    if written {
-        return tell_whether(rt, b"  output as due, and untouched behind", as_due);
+// Whether the output is as due. Where nothing is due, it is to hold the pattern that it came with.
+fn tell_output(rt: &impl Print, out: &[u8], due: Option<&[u8]>) -> io::Result<()> {
+    match due {
+        Some(due) => tell_whether(rt, "  output as due, and untouched behind", out == due),
+        None => tell_whether(rt, "  output untouched", untouched(out)),
     }
-    tell_whether(rt, b"  output untouched", as_due)
 }
 
 fn main(rt: HostRuntime) -> io::Result<()> {

@@ -15,6 +15,7 @@ use Rattle.judge.specs.Apart.{slots_from, slots_count}
 use Rattle.place.specs.Placing.{place_same, place_last}
 use Rattle.note.specs.Noting.{note_same, note_last}
 use Rattle.sorting.specs.Kept.{kept, named, t_records, rule_in, kept_in, named_in, kept_file}
+use Rattle.sorting.proofs.Sound.{first_below}
 use Rattle.sorting.specs.Lists.{named_append}
 use Rattle.sorting.specs.Course.{place_of, z_at_place}
 use Rattle.sorting.specs.Frame.{fit, records_are, behind, records_upto, records_split, records_more, z_of, kept_lengths, kept_few, kept_sized}
@@ -96,45 +97,33 @@ module _ (page : ℕ) (file transfer cheque : List ℕ) (n : ℕ) (e : structure
 
   module _ (k : ℕ) (l : k < n) {next : Next} {out' notes' list' : List ℕ} (h : SentIn page file transfer cheque have out notes list k next out' notes' list')
       (first : ℕ) (asked : first ≡ rule (slot_at file (k + 1))) where
-    pub send_room : first < 100 → RoomFor (slot_at file (k + 1)) (k + 1) first next out' notes' list'
+    send_room : first < 100 → RoomFor (slot_at file (k + 1)) (k + 1) first next out' notes' list'
     unfolding kept_file
     send_room low =
         room_behind (t_records file) (z_of file n e page transfer cheque) k l (records_split file n e k l) (kept_lengths file n e page transfer cheque)
         (kept_few file n e page transfer cheque) rooms h first asked low
 
-    pub send_next : {next'' : Next} {out'' notes'' list'' : List ℕ} → Paid page (slot_at file (k + 1)) (k + 1) first next out' notes' list' next'' out'' notes'' list''
+    send_next : {next'' : Next} {out'' notes'' list'' : List ℕ} → Paid page (slot_at file (k + 1)) (k + 1) first next out' notes' list' next'' out'' notes'' list''
         → SentIn page file transfer cheque have out notes list (k + 1) next'' out'' notes'' list''
     unfolding kept_file
     send_next p =
         sent_behind (t_records file) (z_of file n e page transfer cheque) k l (records_split file n e k l) (kept_lengths file n e page transfer cheque)
         (kept_few file n e page transfer cheque) rooms h first asked p
 
-  -- the same by the record's number, and by what is found
-  module _ (k : ℕ) (low : 1 ≤ k) (high : k ≤ n) {next : Next} {out' notes' list' : List ℕ}
-      (h : SentIn page file transfer cheque have out notes list (k - 1) next out' notes' list') (o : Option ℕ) (told : o ≡ nonzero (rule (slot_at file k))) where
-    back : k - 1 + 1 ≡ k
-    back = omega arith
+  -- the same by what is found
+  module _ (k : ℕ) (l : k < n) {next : Next} {out' notes' list' : List ℕ} (h : SentIn page file transfer cheque have out notes list k next out' notes' list')
+      (o : Option ℕ) (told : o ≡ nonzero (rule (slot_at file (k + 1)))) where
+    asked : or_zero o ≡ rule (slot_at file (k + 1))
+    asked = ap or_zero told ∙ or_zero_nonzero (rule (slot_at file (k + 1)))
 
-    first : or_zero o ≡ rule (slot_at file k)
-    first = ap or_zero told ∙ or_zero_nonzero (rule (slot_at file k))
-
-    asked : or_zero o ≡ rule (slot_at file (k - 1 + 1))
-    asked = first ∙ ap (λ (j : ℕ). rule (slot_at file j)) (sym back)
-
-    pub one_room : (o ≡ nonzero (or_zero o)) × RoomFor (slot_at file k) k (or_zero o) next out' notes' list'
+    pub one_room : (o ≡ nonzero (or_zero o)) × RoomFor (slot_at file (k + 1)) (k + 1) (or_zero o) next out' notes' list'
     one_room =
-        let low : or_zero o < 100 = omega (arith, first, first_below page transfer cheque (key_of (slot_at file 1)) (slot_at file k)) in (
-          told ∙ ap nonzero (sym first),
-          subst (λ (j : ℕ). RoomFor (slot_at file j) j (or_zero o) next out' notes' list') back (send_room (k - 1) (omega arith) h (or_zero o) asked low),
-        )
+        let low : or_zero o < 100 = omega (arith, asked, first_below page transfer cheque (key_of (slot_at file 1)) (slot_at file (k + 1))) in
+        (told ∙ ap nonzero (sym asked), send_room k l h (or_zero o) asked low)
 
-    pub one_sent : {next'' : Next} {out'' notes'' list'' : List ℕ} → Paid page (slot_at file k) k (or_zero o) next out' notes' list' next'' out'' notes'' list''
-        → SentIn page file transfer cheque have out notes list (k + 1 - 1) next'' out'' notes'' list''
-    one_sent {next''} {out''} {notes''} {list''} p =
-        let here : k - 1 + 1 ≡ k + 1 - 1 = omega arith in
-        subst (λ (j : ℕ). SentIn page file transfer cheque have out notes list j next'' out'' notes'' list'') here
-        (send_next (k - 1) (omega arith) h (or_zero o) asked
-        (subst (λ (j : ℕ). Paid page (slot_at file j) j (or_zero o) next out' notes' list' next'' out'' notes'' list'') (sym back) p))
+    pub one_sent : {next'' : Next} {out'' notes'' list'' : List ℕ} → Paid page (slot_at file (k + 1)) (k + 1) (or_zero o) next out' notes' list' next'' out'' notes'' list''
+        → SentIn page file transfer cheque have out notes list (k + 1) next'' out'' notes'' list''
+    one_sent p = send_next k l h (or_zero o) asked p
 
   module _ (k : ℕ) (l : k ≤ n) {next : Next} {out' notes' list' : List ℕ} (h : SentIn page file transfer cheque have out notes list k next out' notes' list') where
     pub out_same : length out' ≡ length out

@@ -2,7 +2,7 @@
 // fresh figures. Nothing is built in between.
 #![tactic(auto)]
 
-ghost use Rattle.std.specs.Prelude.{◌≡◌, ◌+◌, ◌*◌, ◌<◌, length};
+ghost use Rattle.std.specs.Prelude.{◌≡◌, ℕ, ◌+◌, ◌*◌, ◌<◌, length};
 ghost use Rattle.laws.specs.Found.{nonzero, or_zero};
 ghost use Rattle.sorting.specs.Kept.{digits, fresh_z};
 ghost use Rattle.structure.specs.Walk.{structure_of};
@@ -11,7 +11,9 @@ ghost use Rattle.sending.specs.Turns.{Paid, RoomFor};
 ghost use Rattle.sending.specs.Sending.{RoomsIn, Sent};
 ghost use Rattle.sending.specs.Whole.{CanSend, FileSent};
 
+use payments::Terms;
 use records::{Field, Q, T, Z, ZField};
+use sorting::Going;
 
 // A number in digits, as many as there is room for.
 fn digits(n: u64, out: &mut [u8])
@@ -66,7 +68,14 @@ fn payment(
         };
     }
     let end = next.at + T::LENGTH;
-    let have = place::t_record(page, rec, &mut out[next.at..end], next.at, notes, next.notes);
+    let have = place::t_record(
+        page,
+        rec,
+        &mut out[next.at..end],
+        next.at,
+        notes,
+        next.notes,
+    );
     Next {
         at: end,
         notes: have,
@@ -74,55 +83,53 @@ fn payment(
     }
 }
 
-// The T records of a file with n of them: the kept ones from Q's end on, their notes behind Q's, of which there are `have`.
+// The T records of a file that fits: the kept ones from Q's end on, their notes behind Q's, of which there are `have`.
 fn t_records(
-    page: u32,
+    terms: &Terms<'_>,
     file: &[u8],
-    n: usize,
-    transfer: &[u8],
-    cheque: &[u8],
     have: usize,
     out: &mut [u8],
     notes: &mut [u32],
     list: &mut [u32],
 ) -> Next
-    requires { (structure_of file.now ≡ Fits n) × RoomsIn page file.now transfer.now cheque.now have out.old notes.old list.old }
-    ensures { Sent page file.now transfer.now cheque.now have out.old notes.old list.old result out.new notes.new list.new }
+    requires { ((n : ℕ) × (structure_of file.now ≡ Fits n)) × RoomsIn terms.now.page file.now terms.now.transfer.now terms.now.cheque.now have out.old notes.old list.old }
+    ensures { Sent terms.now.page file.now terms.now.transfer.now terms.now.cheque.now have out.old notes.old list.old result out.new notes.new list.new }
 {
-    let key = payments::key(structure::slot(file, 1));
+    let key = payments::key(structure::whole(file, 1));
     let mut next = Next {
         at: Q::LENGTH,
         notes: have,
         names: 0,
     };
-    for k in 1..n + 1 {
-        let t = structure::slot(file, k).as_array::<768>().unwrap();
-        let rule = sorting::first_rule(page, transfer, cheque, key, t);
-        next = payment(page, t, k, rule, next, out, notes, list);
+    for (i, t) in count::t_records(file).iter().enumerate() {
+        let rule = sorting::first_rule(terms, key, t);
+        next = payment(terms.page, t, i + 1, rule, next, out, notes, list);
     }
     next
 }
 
-// The kept file into the output, its notes, and the names of what comes back. It keeps so many payments with so many euros.
+// The kept file into the output, its notes, and the names of what comes back, by the figures that sorting found.
 pub fn file(
-    page: u32,
+    terms: &Terms<'_>,
     file: &[u8],
-    n: usize,
-    transfer: &[u8],
-    cheque: &[u8],
-    kept: u64,
-    euros: u64,
+    going: Going,
     out: &mut [u8],
     notes: &mut [u32],
     list: &mut [u32],
 )
-    requires { CanSend page file.now n transfer.now cheque.now kept euros out.old notes.old list.old }
-    ensures { FileSent page file.now transfer.now cheque.now out.old notes.old list.old out.new notes.new list.new }
+    requires { CanSend terms.now.page file.now (going.payments.kept + going.payments.returned) terms.now.transfer.now terms.now.cheque.now going.payments.kept going.euros.kept out.old notes.old list.old }
+    ensures { FileSent terms.now.page file.now terms.now.transfer.now terms.now.cheque.now out.old notes.old list.old out.new notes.new list.new }
 {
-    let q = structure::slot(file, 0);
-    let have = place::q_record(page, q, &mut out[0..Q::LENGTH], notes);
-    let next = t_records(page, file, n, transfer, cheque, have, out, notes, list);
+    let n = (going.payments.kept + going.payments.returned) as usize;
+    let q = structure::whole(file, 0);
+    let have = place::q_record(terms.page, q, &mut out[0..Q::LENGTH], notes);
+    let next = t_records(terms, file, have, out, notes, list);
+    let z = structure::whole(file, n + 1);
     let end = next.at + Z::LENGTH;
-    let z = structure::slot(file, n + 1).as_array::<256>().unwrap();
-    fresh_z(z, kept, euros, &mut out[next.at..end]);
+    fresh_z(
+        z,
+        going.payments.kept,
+        going.euros.kept,
+        &mut out[next.at..end],
+    );
 }

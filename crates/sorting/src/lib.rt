@@ -17,6 +17,7 @@ ghost use Rattle.sorting.specs.Counting.{figures_are, with_one, Small, figures_o
 
 use fields::Class;
 use judge::{Breach, Refusal};
+use payments::Terms;
 use records::{Field, Q, TField};
 
 // What is kept, and what is returned.
@@ -76,16 +77,10 @@ impl From<Result<Going, Refusal>> for Sorted {
 
 // The first of the rules 20 to 35 that a T record breaks. The key is record 1's. The judge's own loop asks them, so that
 // they are compiled into one place; as of record 1 of one, for no T rule asks for a record's number.
-pub fn first_rule(
-    page: u32,
-    transfer: &[u8],
-    cheque: &[u8],
-    key: &[u8; 21],
-    t: &[u8; 768],
-) -> Option<usize>
-    ensures { result ≡ nonzero (first_of page transfer.now cheque.now key.now t.now) }
+pub fn first_rule(terms: &Terms<'_>, key: &[u8; 21], t: &[u8; 768]) -> Option<usize>
+    ensures { result ≡ nonzero (first_of terms.now.page terms.now.transfer.now terms.now.cheque.now key.now t.now) }
 {
-    let found = judge::run(page, transfer, cheque, key, 1, 0, t, Q::LENGTH, 1, 2)?;
+    let found = judge::run(terms, key, 1, 0, t, Q::LENGTH, 1, 2)?;
     Some(found.number)
 }
 
@@ -137,9 +132,9 @@ fn with_one(had: Figures, t: &[u8; 768]) -> Figures
 }
 
 // What the kept payments of a file that fits come to.
-fn count_kept(page: u32, file: &[u8], transfer: &[u8], cheque: &[u8]) -> Figures
+fn count_kept(terms: &Terms<'_>, file: &[u8]) -> Figures
     requires { (n : ℕ) × (structure_of file.now ≡ Fits n) }
-    ensures { result ≡ figures_of page file.now transfer.now cheque.now }
+    ensures { result ≡ figures_of terms.now.page file.now terms.now.transfer.now terms.now.cheque.now }
 {
     let key = payments::key(structure::whole(file, 1));
     let mut sum = Figures {
@@ -148,7 +143,7 @@ fn count_kept(page: u32, file: &[u8], transfer: &[u8], cheque: &[u8]) -> Figures
         changes: count::q_record(structure::whole(file, 0)),
     };
     for t in count::t_records(file) {
-        if first_rule(page, transfer, cheque, key, t).is_none() {
+        if first_rule(terms, key, t).is_none() {
             sum = with_one(sum, t);
         }
     }
@@ -186,19 +181,12 @@ pub fn whole(n: usize, euros: u64, changes: usize) -> Going
 }
 
 // The rules of Z: with n T records, whose T14a sum up to euros. No rule of Z reads the key.
-fn z_rules(
-    page: u32,
-    file: &[u8],
-    n: usize,
-    euros: u64,
-    transfer: &[u8],
-    cheque: &[u8],
-) -> Result<(), Breach>
+fn z_rules(terms: &Terms<'_>, file: &[u8], n: usize, euros: u64) -> Result<(), Breach>
     requires { (structure_of file.now ≡ Fits n) × (euros ≡ euro_sum file.now n) }
-    ensures { result ≡ unbroken (z_breach page file.now n transfer.now cheque.now) }
+    ensures { result ≡ unbroken (z_breach terms.now.page file.now n terms.now.transfer.now terms.now.cheque.now) }
 {
     let key = payments::key(structure::whole(file, 1));
-    match judge::run(page, transfer, cheque, key, n, euros, file, 0, n + 1, n + 2) {
+    match judge::run(terms, key, n, euros, file, 0, n + 1, n + 2) {
         Some(breach) => Err(breach),
         None => Ok(()),
     }
@@ -206,20 +194,13 @@ fn z_rules(
 
 // Behind Q, which breaks no rule: amounts, then Z, and then the payments one by one.
 #[tactic(auto, using(crate::proofs::Answers::told_43, crate::proofs::Answers::told_going))]
-fn behind_q(
-    page: u32,
-    file: &[u8],
-    n: usize,
-    euros: u64,
-    transfer: &[u8],
-    cheque: &[u8],
-) -> Result<Going, Refusal>
+fn behind_q(terms: &Terms<'_>, file: &[u8], n: usize, euros: u64) -> Result<Going, Refusal>
     requires { (structure_of file.now ≡ Fits n) × (euros ≡ euro_sum file.now n) }
-    ensures { sorted_of result ≡ behind_q page file.now n transfer.now cheque.now }
+    ensures { sorted_of result ≡ behind_q terms.now.page file.now n terms.now.transfer.now terms.now.cheque.now }
 {
     amounts(file, n)?;
-    z_rules(page, file, n, euros, transfer, cheque)?;
-    let kept = count_kept(page, file, transfer, cheque);
+    z_rules(terms, file, n, euros)?;
+    let kept = count_kept(terms, file);
     if kept.payments == 0 {
         return Err(Refusal::NothingKept);
     }
@@ -227,32 +208,26 @@ fn behind_q(
 }
 
 // A file with n T records. Where it breaks no rule it goes on whole, and a number below 20 is a rule of Q.
-fn by_records(
-    page: u32,
-    file: &[u8],
-    n: usize,
-    transfer: &[u8],
-    cheque: &[u8],
-) -> Result<Going, Refusal>
+fn by_records(terms: &Terms<'_>, file: &[u8], n: usize) -> Result<Going, Refusal>
     requires { structure_of file.now ≡ Fits n }
-    ensures { sorted_of result ≡ sort_by (Fits n) page file.now transfer.now cheque.now }
+    ensures { sorted_of result ≡ sort_by (Fits n) terms.now.page file.now terms.now.transfer.now terms.now.cheque.now }
 {
     let euros = judge::sum(file, n).euros;
-    match judge::content(page, file, n, euros, transfer, cheque) {
+    match judge::content(terms, file, n, euros) {
         Ok(()) => Ok(whole(n, euros, count::file(file))),
         Err(broken) if broken.number < 20 => Err(Refusal::Broken(broken)),
-        Err(_) => behind_q(page, file, n, euros, transfer, cheque),
+        Err(_) => behind_q(terms, file, n, euros),
     }
 }
 
 // A page that does not exist is 7, before anything is read; then structure, and then the records.
-pub fn sort(page: u32, file: &[u8], transfer: &[u8], cheque: &[u8]) -> Result<Going, Refusal>
-    ensures answer { SortedAs page file.now transfer.now cheque.now (sorted_of result) }
+pub fn sort(terms: &Terms<'_>, file: &[u8]) -> Result<Going, Refusal>
+    ensures answer { SortedAs terms.now.page file.now terms.now.transfer.now terms.now.cheque.now (sorted_of result) }
     ensures real { IfErr result (λ why. number_of why ≡ 0 → ⊥) }
 {
-    if !charset::is_page(page) {
+    if !charset::is_page(terms.page) {
         return Err(Refusal::NoSuchPage);
     }
     let n = structure::walk(file)?;
-    by_records(page, file, n, transfer, cheque)
+    by_records(terms, file, n)
 }

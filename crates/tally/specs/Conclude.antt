@@ -1,14 +1,14 @@
 -- What the whole records of a file tell where it ends.
-use Rattle.std.proofs.Common.{ℕ, ◌-◌, ◌≤◌, ◌<◌, ◌≡◌, refl, Bool, true, false, cond, List, [], eqb, ltb, length, sym, ◌∙◌, arith, eqb-true, ap}
+use Rattle.std.proofs.Common.{ℕ, ◌-◌, ◌≤◌, ◌<◌, ◌≡◌, cond, List, [], eqb, ltb, length, sym, ◌∙◌, arith, ap}
 use Prim.Native.Char.{code}
-use Rattle.std.proofs.lemmas.Bool.{eqb-false}
+use Rattle.std.proofs.lemmas.Bool.Decides.{nat_tests}
 use Rattle.laws.specs.Choice.{on_eq, off_eq, on_lt, off_lt}
-use Rattle.structure.specs.Slots.{width_at, later_width}
+use Rattle.structure.specs.Slots.{width_at}
 use Rattle.structure.specs.Walk.{letter_of, fault_in}
-use Rattle.structure.specs.Whole.{WholeSlot, whole, length_low, length_t, letter_t, z_later}
+use Rattle.structure.specs.Whole.{WholeSlot, whole}
 use Rattle.judge.specs.Verdict.{refused, sound, unless}
 use Rattle.judge.specs.declared.Verdict.{Verdict}
-use Rattle.tally.specs.Record.{breach_in, or_next, q_width}
+use Rattle.tally.specs.Record.{breach_in, or_next}
 use Rattle.tally.specs.declared.Tally.{Tally}
 
 -- at a whole Z; no rule of Z reads a list
@@ -32,26 +32,9 @@ pub record EndsIn (k : ℕ) (slot : List ℕ) : Type 0 where
   pub long : length slot ≡ 256
 
 pub ends_in : (k : ℕ) (slot : List ℕ) → fault_in k slot ≡ 0 → length slot < width_at k → EndsIn k slot
-ends_in k slot e short = go (eqb (letter_of slot) (code "Z")) refl
-  where
-    w : WholeSlot k slot
-    w = whole k slot e
-
-    low : 256 ≤ length slot
-    low = omega (arith, w.long, length_low (letter_of slot))
-
-    later : (b : Bool) → eqb k 0 ≡ b → 1 ≤ k
-    later true p = absurd (omega (arith, low, short, q_width k (eqb-true k 0 p)))
-    later false p = omega (arith, eqb-false k 0 p)
-
-    go : (b : Bool) → eqb (letter_of slot) (code "Z") ≡ b → EndsIn k slot
-    go true p =
-        let z = eqb-true _ _ p in
-        record { later = z_later k _ z w.here; z = z; long = omega (arith, low, w.last z) }
-    go false p =
-        let h = later (eqb k 0) refl in
-        let t = letter_t k (letter_of slot) h w.here (eqb-false _ _ p) in
-        absurd (omega (arith, short, later_width k h, w.long, length_t (letter_of slot) t))
+ends_in k slot e short =
+    let w : WholeSlot k slot = whole k slot e in
+    record { later = grind (arith, nat_tests); z = grind (arith, nat_tests); long = grind (arith, nat_tests) }
 
 module _ (page : ℕ) (s : Tally) (left : List ℕ) where
   module _ (bytes : ℕ) {v : Verdict} where

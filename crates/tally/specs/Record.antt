@@ -1,10 +1,10 @@
 -- A record by itself: its first broken rule, by its bytes, with record 1's bytes from T3 to T4b handed in as the key.
-use Rattle.std.proofs.Common.{not, unwrap_or, Some, None, ℕ, ◌+◌, ◌≤◌, ◌≡◌, refl, Bool, true, false, cond, List, eqb, length, sym, ap, ◌∙◌, arith}
-use Rattle.laws.specs.Choice.{on_eq}
+use Rattle.std.proofs.Common.{unwrap_or, ℕ, ◌+◌, ◌≤◌, ◌≡◌, cond, List, eqb, length, ap, ◌∙◌, arith}
+use Rattle.std.proofs.lemmas.Bool.Decides.{nat_tests}
 use Rattle.laws.specs.Scan.{or_else, run_turn, run_end}
 use Rattle.records.specs.Places.{record_at}
 use Rattle.structure.specs.Slots.{width_at}
-use Rattle.judge.specs.First.{first_rule, faulty, told_at, none}
+use Rattle.judge.specs.First.{faulty, told_at, none}
 use Rattle.judge.specs.Found.{broken}
 use Rattle.judge.specs.Content.{rule_from, rule_end}
 use Rattle.judge.specs.Run.{slot_fault, slot_in, run_fault, first_in, by_itself}
@@ -21,7 +21,7 @@ abbrev pub or_next : Breach → Breach → Breach
 or_next b next = cond (eqb b.number 0) next b
 
 pub q_width : (k : ℕ) → k ≡ 0 → width_at k ≡ 256
-q_width k z = sym (on_eq {x = 256} 768 z refl)
+q_width k z = grind (arith, nat_tests)
 
 -- the first broken rule of a run of one record
 pub of_run : (page : ℕ) (transfer cheque key : List ℕ) (payments euros : ℕ) (slot : List ℕ) (k skip : ℕ) → skip ≡ record_at k
@@ -39,12 +39,4 @@ of_run page transfer cheque key payments euros slot k skip e short =
 pub kept_in : (page : ℕ) (transfer cheque key : List ℕ) (payments euros : ℕ) (slot : List ℕ) (k : ℕ)
     → unwrap_or (broken (breach_in page transfer cheque key payments euros slot k)) none ≡ breach_in page transfer cheque key payments euros slot k
 unfolding breach_in
-kept_in page transfer cheque key payments euros slot k =
-    go (eqb (first_rule (slot_fault page transfer cheque key payments euros slot) (rule_from payments) (rule_end payments) k) 0) refl
-  where
-    told : Breach
-    told = told_at (slot_fault page transfer cheque key payments euros slot) (rule_from payments) (rule_end payments) k
-
-    go : (b : Bool) → eqb told.number 0 ≡ b → unwrap_or (broken (cond (not b) told none)) none ≡ cond (not b) told none
-    go true e = refl
-    go false e = ap (λ (t : Bool). unwrap_or (cond t None (Some told)) none) e
+kept_in page transfer cheque key payments euros slot k = grind (arith, nat_tests)

@@ -1,7 +1,7 @@
 -- What the whole records of a file have shown so far, as one more is added.
-use Rattle.std.proofs.Common.{ℕ, ◌+◌, ◌*◌, ◌≤◌, ◌≡◌, Bool, true, false, ◌&&◌, cond, List, eqb, leb, ltb, replicate, refl, sym, ap, ◌∙◌, arith, eqb-true, leb-true, ltb-false, le-leb, lit≤}
-use Rattle.std.proofs.lemmas.Bool.{false≢true, eqb-false}
-use Rattle.laws.specs.Choice.{either, on_eq, off_eq, off_lt}
+use Rattle.std.proofs.Common.{ℕ, ◌+◌, ◌*◌, ◌≤◌, ◌≡◌, Bool, true, false, ◌&&◌, cond, List, eqb, leb, ltb, replicate, sym, ap, ◌∙◌, arith}
+use Rattle.std.proofs.lemmas.Bool.Decides.{nat_tests}
+use Rattle.laws.specs.Choice.{on_eq, off_eq}
 use Rattle.payments.specs.Rules.{key_of}
 use Rattle.structure.specs.Walk.{fault_in}
 use Rattle.judge.specs.First.{none}
@@ -84,56 +84,27 @@ pub record Steady (s : Tally) : Type 0 where
 
 pub steady : (s : Tally) → is_steady s ≡ true → Steady s
 steady s e =
-    go (ltb 10000 s.next) (leb s.euros (s.next * 100000000000000)) (leb s.cents (s.next * 100)) (leb s.changes (s.next * 768))
-    refl refl refl refl e
-  where
-    go : (over a b c : Bool) → ltb 10000 s.next ≡ over → leb s.euros (s.next * 100000000000000) ≡ a
-        → leb s.cents (s.next * 100) ≡ b → leb s.changes (s.next * 768) ≡ c → cond over false ((a && b) && c) ≡ true → Steady s
-    go true a b c o p q r e = absurd (false≢true e)
-    go false false b c o p q r e = absurd (false≢true e)
-    go false true false c o p q r e = absurd (false≢true e)
-    go false true true false o p q r e = absurd (false≢true e)
-    go false true true true o p q r e =
-        record { few = ltb-false _ _ o; euros_fit = leb-true _ _ p; cents_fit = leb-true _ _ q; changes_fit = leb-true _ _ r }
+    record {
+      few = grind (arith, nat_tests);
+      euros_fit = grind (arith, nat_tests);
+      cents_fit = grind (arith, nat_tests);
+      changes_fit = grind (arith, nat_tests);
+    }
 
 pub steady_is : (s : Tally) → Steady s → is_steady s ≡ true
-steady_is s h =
-    sym (off_lt false h.few (sym (rw (le-leb _ _ h.euros_fit, le-leb _ _ h.cents_fit, le-leb _ _ h.changes_fit))))
+steady_is s h = grind (arith, nat_tests)
 
 module _ (page : ℕ) (transfer cheque : List ℕ) (s : Tally) (slot : List ℕ) where
   -- one more record, and the sums go on fitting
   pub steady_settle : Steady s → Steady (settle_of page transfer cheque s slot)
   unfolding settle_of
-  steady_settle h = go (eqb s.next 10000) (eqb s.next 0) refl refl
-    where
-      same : (n : ℕ) → Steady (stopped s n)
-      same n = record { few = h.few; euros_fit = h.euros_fit; cents_fit = h.cents_fit; changes_fit = h.changes_fit }
-
-      on_q : s.next ≡ 0 → Steady (with_q page transfer cheque s slot)
-      on_q z =
-          record {
-            few = lit≤ tt;
-            euros_fit = omega (arith, h.euros_fit);
-            cents_fit = omega (arith, h.cents_fit);
-            changes_fit = omega (arith, h.changes_fit, q_few slot);
-          }
-
-      on_t : (s.next ≡ 10000 → ⊥) → Steady (with_t page transfer cheque s slot)
-      on_t n =
-          record {
-            few = omega (arith, h.few);
-            euros_fit = omega (arith, h.euros_fit, euros_lt slot);
-            cents_fit = omega (arith, h.cents_fit, cents_lt slot);
-            changes_fit = omega (arith, h.changes_fit, t_few slot);
-          }
-
-      go : (last first : Bool) → eqb s.next 10000 ≡ last → eqb s.next 0 ≡ first
-          → Steady (cond (eqb (cond last 1 (fault_in s.next slot)) 0)
-          (cond first (with_q page transfer cheque s slot) (with_t page transfer cheque s slot))
-          (stopped s (cond last 1 (fault_in s.next slot))))
-      go true first p q = same 1
-      go false true p q = either Steady (eqb (fault_in s.next slot) 0) _ _ (on_q (eqb-true _ _ q)) (same _)
-      go false false p q = either Steady (eqb (fault_in s.next slot) 0) _ _ (on_t (eqb-false _ _ p)) (same _)
+  steady_settle h =
+      record {
+        few = grind (arith, nat_tests);
+        euros_fit = grind (arith, nat_tests, euros_lt);
+        cents_fit = grind (arith, nat_tests, cents_lt);
+        changes_fit = grind (arith, nat_tests, q_few, t_few);
+      }
 
 module _ (page : ℕ) (transfer cheque : List ℕ) (s : Tally) (slot : List ℕ) where
   module _ {stop : ℕ} (e : stop ≡ stop_at s.next slot) where

@@ -12,6 +12,7 @@ ghost use Rattle.tally.specs.Settle.{fresh, key_at, stop_at, with_q, with_t, set
 ghost use Rattle.tally.specs.Conclude.{at_z, conclude_of};
 
 use judge::{Breach, Refusal, Totals};
+use payments::Terms;
 use structure::{Fault, Misfit};
 
 // No broken rule, in C's layout.
@@ -41,9 +42,7 @@ pub struct Tally {
 
 // The first broken rule of record k, whose bytes are the slot's, or none.
 fn breach(
-    page: u32,
-    transfer: &[u8],
-    cheque: &[u8],
+    terms: &Terms<'_>,
     key: &[u8; 21],
     payments: usize,
     euros: u64,
@@ -51,12 +50,10 @@ fn breach(
     k: usize,
 ) -> Option<Breach>
     requires { (length slot.now ≡ length_at payments k) × (length slot.now ≤ width_at k) × (k ≤ 10000) }
-    ensures { result ≡ broken (breach_in page transfer.now cheque.now key.now payments euros slot.now k) }
+    ensures { result ≡ broken (breach_in terms.now.page terms.now.transfer.now terms.now.cheque.now key.now payments euros slot.now k) }
 {
     judge::run(
-        page,
-        transfer,
-        cheque,
+        terms,
         key,
         payments,
         euros,
@@ -68,22 +65,14 @@ fn breach(
 }
 
 // The first fault: that so far, or else record k's, which is Q or a T record.
-fn or_next(
-    broken: Breach,
-    page: u32,
-    transfer: &[u8],
-    cheque: &[u8],
-    key: &[u8; 21],
-    slot: &[u8],
-    k: usize,
-) -> Breach
+fn or_next(terms: &Terms<'_>, broken: Breach, key: &[u8; 21], slot: &[u8], k: usize) -> Breach
     requires { (length slot.now ≡ width_at k) × (k ≤ 10000) }
-    ensures { result ≡ or_next broken (breach_in page transfer.now cheque.now key.now k 0 slot.now k) }
+    ensures { result ≡ or_next broken (breach_in terms.now.page terms.now.transfer.now terms.now.cheque.now key.now k 0 slot.now k) }
 {
     if broken.number != 0 {
         return broken;
     }
-    breach(page, transfer, cheque, key, k, 0, slot, k).unwrap_or(NONE)
+    breach(terms, key, k, 0, slot, k).unwrap_or(NONE)
 }
 
 // The same at Z, which is record k. No rule of Z reads a list.
@@ -101,7 +90,12 @@ fn or_z(
     if broken.number != 0 {
         return Err(broken);
     }
-    match breach(page, &[], &[], key, k - 1, euros, z, k) {
+    let terms = Terms {
+        page,
+        transfer: &[],
+        cheque: &[],
+    };
+    match breach(&terms, key, k - 1, euros, z, k) {
         Some(breach) => Err(breach),
         None => Ok(()),
     }
@@ -157,11 +151,11 @@ impl Tally {
     }
 
     #[tactic(auto, using(forwarding::specs::Fields::q_few))]
-    fn with_q(mut self, page: u32, q: &[u8; 256], transfer: &[u8], cheque: &[u8]) -> Self
+    fn with_q(mut self, terms: &Terms<'_>, q: &[u8; 256]) -> Self
         requires { Steady self }
-        ensures { result ≡ with_q page transfer.now cheque.now self q.now }
+        ensures { result ≡ with_q terms.now.page terms.now.transfer.now terms.now.cheque.now self q.now }
     {
-        self.broken = or_next(self.broken, page, transfer, cheque, &self.key, q, 0);
+        self.broken = or_next(terms, self.broken, &self.key, q, 0);
         self.number = judge::number_of(q);
         self.changes += count::q_record(q);
         self.next = 1;
@@ -169,13 +163,13 @@ impl Tally {
     }
 
     #[tactic(auto, using(judge::specs::Sums::euros_lt, judge::specs::Sums::cents_lt, forwarding::specs::Fields::t_few))]
-    fn with_t(mut self, page: u32, t: &[u8; 768], transfer: &[u8], cheque: &[u8]) -> Self
+    fn with_t(mut self, terms: &Terms<'_>, t: &[u8; 768]) -> Self
         requires { Steady self × (1 ≤ self.next) × (self.next < 10000) }
-        ensures { result ≡ with_t page transfer.now cheque.now self t.now }
+        ensures { result ≡ with_t terms.now.page terms.now.transfer.now terms.now.cheque.now self t.now }
     {
         let k = self.next;
         self.key = key_at(k, self.key, t);
-        self.broken = or_next(self.broken, page, transfer, cheque, &self.key, t, k);
+        self.broken = or_next(terms, self.broken, &self.key, t, k);
         self.euros += judge::euros_of(t);
         self.cents += judge::cents_of(t);
         self.changes += count::t_record(t);
@@ -185,18 +179,18 @@ impl Tally {
 
     // The next record fills its slot.
     #[tactic(auto, unfolding(crate::specs::Settle::settle_of))]
-    pub fn settle(mut self, page: u32, slot: &[u8], transfer: &[u8], cheque: &[u8]) -> Self
+    pub fn settle(mut self, terms: &Terms<'_>, slot: &[u8]) -> Self
         requires { (length slot.now ≡ width_at self.next) × Steady self }
-        ensures { result ≡ settle_of page transfer.now cheque.now self slot.now }
+        ensures { result ≡ settle_of terms.now.page terms.now.transfer.now terms.now.cheque.now self slot.now }
     {
         if let Err(fault) = stop_at(self.next, slot) {
             self.stop = fault.number();
             return self;
         }
         if self.next == 0 {
-            return self.with_q(page, slot.as_array().unwrap(), transfer, cheque);
+            return self.with_q(terms, slot.as_array().unwrap());
         }
-        self.with_t(page, slot.as_array().unwrap(), transfer, cheque)
+        self.with_t(terms, slot.as_array().unwrap())
     }
 
     // The answer where the file ends in a whole Z.

@@ -34,7 +34,7 @@ returns-in-Some c =
     let says = rw c.slot_in-slot.ensures at c.in-Some.ensures in
     let real : 0 < l.rule = omega (arith, rule_real a.payments r.k) in
     let rule = leaves _ _ _ _ _ l.rule c.loop-rule-test.true l.invariant.1 (on_ne _ refl (of_some_ne says) refl) in
-    let F = run_fault a.page a.transfer.now a.cheque.now a.key.now a.payments a.euros a.bytes.now a.skip in
+    let F = run_fault a.terms.now.page a.terms.now.transfer.now a.terms.now.cheque.now a.key.now a.payments a.euros a.bytes.now a.skip in
     some_broken (λ z. omega arith)
     (leaves _ _ _ _ _ _ c.records-test.true r.invariant.1
     (found F (rule_from a.payments) (rule_end a.payments) r.k l.rule _ _ real rule (of_some says)))

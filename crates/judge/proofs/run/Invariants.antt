@@ -10,11 +10,11 @@ use Rattle.judge.proofs.run.Given as goal
 abbrev pub invariant-loop-rule : goal.invariant-loop-rule
 invariant-loop-rule l =
     (l.found ≡ None)
-    × (first (breaks (run_fault l.page l.transfer l.cheque l.key l.payments l.euros l.bytes l.skip) l.k) (λ r. r) 0 l.rule l.rule-end
-    ≡ first_rule (run_fault l.page l.transfer l.cheque l.key l.payments l.euros l.bytes l.skip) (rule_from l.payments) (rule_end l.payments) l.k)
+    × (first (breaks (run_fault l.terms.page l.terms.transfer.now l.terms.cheque.now l.key l.payments l.euros l.bytes l.skip) l.k) (λ r. r) 0 l.rule l.rule-end
+    ≡ first_rule (run_fault l.terms.page l.terms.transfer.now l.terms.cheque.now l.key l.payments l.euros l.bytes l.skip) (rule_from l.payments) (rule_end l.payments) l.k)
 
 abbrev pub invariant-records : goal.invariant-records
 invariant-records l =
     (l.found ≡ None)
-    × (first_in (run_fault l.page l.transfer l.cheque l.key l.payments l.euros l.bytes l.skip) (rule_from l.payments) (rule_end l.payments) l.k l.to
-    ≡ first_in (run_fault l.page l.transfer l.cheque l.key l.payments l.euros l.bytes l.skip) (rule_from l.payments) (rule_end l.payments) l.from l.to)
+    × (first_in (run_fault l.terms.page l.terms.transfer.now l.terms.cheque.now l.key l.payments l.euros l.bytes l.skip) (rule_from l.payments) (rule_end l.payments) l.k l.to
+    ≡ first_in (run_fault l.terms.page l.terms.transfer.now l.terms.cheque.now l.key l.payments l.euros l.bytes l.skip) (rule_from l.payments) (rule_end l.payments) l.from l.to)

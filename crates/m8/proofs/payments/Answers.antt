@@ -1,67 +1,70 @@
-use borrow.Author.Rules.{rules}
-use native.Mathlib.Omega.{arith}
-use Prim.Native.Nat.{ℕ, ◌+◌}
-use mathlib.Core.Path.{sym, ap, ap₂, ◌∙◌}
-use mathlib.Core.Bool.{cond}
-use mathlib.Core.List.{List, []}
-use lib.Dec.{eqb}
-use lib.ListN.{length}
+use Rattle.std.proofs.Common.{◌≡◌, ℕ, ◌+◌, ◌<◌, ap, ap₂, subst, sym, ◌∙◌, arith, lit<, get_or, List, []}
+use Rattle.laws.specs.Found.{nonzero}
 use Rattle.payments.specs.Rules.{key_of}
-use Rattle.forwarding.specs.Noted.{noted_none, noted_is}
-use Rattle.sorting.specs.Kept.{first_of}
-use Rattle.sorting.specs.Frame.{fit, found, q_found, t_found}
+use Rattle.structure.specs.Slots.{slot_at}
+use Rattle.forwarding.specs.Noted.{noted_is}
+use Rattle.sorting.specs.Kept.{first_of, rule_in}
+use Rattle.sorting.specs.Frame.{fit, sized, turns_count, turn_slot, q_there, t_there}
 use Rattle.m8.specs.Record.{m8_of, code_of}
-use Rattle.m8.proofs.Course.{same_room, turn_asked, turn_filed, turns_end}
+use Rattle.m8.specs.Course.{FiledSoFar}
+use Rattle.m8.proofs.Course.{turn_passed, turn_asked, turn_filed, turns_end}
 use Rattle.m8.proofs.payments.Goals as goal
+use Rattle.m8.proofs.payments.Goals.{After-first_rule, in-Some, in_default}
 
-pub key-key-requires : goal.key-key-requires
-key-key-requires c =
+subst2 : (P : ℕ → List ℕ → Type 0) {at at' : ℕ} {out out' : List ℕ} → at ≡ at' → out ≡ out' → P at out → P at' out'
+subst2 P {at} {at'} {out} {out'} p q h = subst (λ (a : ℕ). P a out') p (subst (λ (o : List ℕ). P at o) q h)
+
+pub whole-q-requires : goal.whole-q-requires
+whole-q-requires c = (lit< tt, q_there c.args.file.now c.requires.0.0 c.requires.0.1)
+
+pub whole-requires : goal.whole-requires
+whole-requires c =
+    let e = c.requires.0.1 in
+    (lit< tt, t_there c.args.file.now c.requires.0.0 e 1 (omega arith) (fit c.args.file.now c.requires.0.0 e).some)
+
+pub t_records-t-items-requires : goal.t_records-t-items-requires
+t_records-t-items-requires c = sized c.args.file.now c.requires.0.0 c.requires.0.1
+
+-- the payment of this turn, and what `first_rule` says of it
+more : (c : After-first_rule) → c.loop-t.t-index < c.requires.0.0
+more c = omega (arith, turns_count c.args.file.now c.requires.0.0 c.requires.0.1 c.t_records-t-items.ensures)
+
+is : (c : After-first_rule) → get_or c.t_records-t-items.result.now c.loop-t.t-index [] ≡ slot_at c.args.file.now (c.loop-t.t-index + 1)
+is c = turn_slot c.args.file.now c.requires.0.0 c.requires.0.1 c.t_records-t-items.ensures c.loop-t.t-index (more c)
+
+told : (c : After-first_rule)
+    → c.first_rule.result ≡ nonzero (rule_in c.args.terms.now.page c.args.file.now c.args.terms.now.transfer.now c.args.terms.now.cheque.now (slot_at c.args.file.now (c.loop-t.t-index + 1)))
+told c =
     let a = c.args in
-    t_found a.file.now a.n c.requires.0 1 (omega arith) (fit a.file.now a.n c.requires.0).some c.slot.ensures
-
-pub slot-t-requires : goal.slot-t-requires
-slot-t-requires c =
-    found c.args.file.now c.args.n c.requires.0 (c.loop-k.k + 1) (omega (arith, c.loop-k-test.true))
+    c.first_rule.ensures ∙ ap nonzero (ap₂ (first_of a.terms.now.page a.terms.now.transfer.now a.terms.now.cheque.now) (c.key-key.ensures.bytes ∙ ap key_of c.whole.ensures) (is c))
 
 pub payment-at-requires : goal.payment-at-requires
 payment-at-requires c =
     let a = c.args in
-    let l = c.loop-k in (
-      q_found a.file.now a.n c.requires.0 c.slot-q.ensures,
-      (t_found c.args.file.now c.args.n c.requires.0 (c.loop-k.k + 1) (omega arith) (omega (arith, c.loop-k-test.true)) c.slot-t.ensures),
-      turn_asked a.page a.file.now a.transfer.now a.cheque.now a.codes.now a.n c.requires.0 a.out.now c.requires.1 l.k l.invariant.1 c.loop-k-test.true c.first_rule-rule.result (let a = c.args in
-          c.first_rule-rule.ensures
-          ∙ ap₂ (first_of a.page a.transfer.now a.cheque.now) (c.key-key.ensures.bytes ∙ ap key_of c.slot.ensures) c.slot-t.ensures) (ap length (sym c.slot-t.ensures) ∙ (t_found c.args.file.now c.args.n c.requires.0 (c.loop-k.k + 1) (omega arith) (omega (arith, c.loop-k-test.true)) c.slot-t.ensures)),
-    )
+    let at = (goal.at.payment-at-requires c).After-first_rule in
+    turn_asked a.terms.now.page a.file.now a.terms.now.transfer.now a.terms.now.cheque.now a.codes.now c.requires.0.0 c.requires.0.1 a.out.now c.requires.1 c.loop-t.t-index c.loop-t.invariant (more at)
+    (sym c.in-Some.is ∙ told at)
 
-pub loop-k-preserved : goal.loop-k-preserved
-loop-k-preserved c =
+pub loop-t-preserved : goal.loop-t-preserved
+loop-t-preserved c =
     let a = c.args in
-    let l = c.loop-k in
-    let q_is = c.slot-q.ensures in
-    let t-is = c.slot-t.ensures in
-    let first = c.first_rule-rule.result in
-    let written = noted_is (ap₂ (λ (q t : List ℕ). cond (eqb first 0) [] (m8_of a.page q (code_of a.codes.now first) t)) q_is t-is) c.payment-at.ensures in (
-      search rules,
-      turn_filed a.page a.file.now a.transfer.now a.cheque.now a.codes.now a.n c.requires.0 a.out.now c.requires.1 l.k l.invariant.1 c.loop-k-test.true first (let a = c.args in
-          c.first_rule-rule.ensures
-          ∙ ap₂ (first_of a.page a.transfer.now a.cheque.now) (c.key-key.ensures.bytes ∙ ap key_of c.slot.ensures) c.slot-t.ensures) written,
-    )
-
-pub slot-q-requires : goal.slot-q-requires
-slot-q-requires c = found c.args.file.now c.args.n c.requires.0 0 (omega arith)
-
-pub slot-requires : goal.slot-requires
-slot-requires c = found c.args.file.now c.args.n c.requires.0 1 (omega arith)
-
-pub loop-k-init : goal.loop-k-init
-loop-k-init c = (search rules, noted_none 0 c.args.out.now)
-
-pub first_rule-rule-requires : goal.first_rule-rule-requires
-first_rule-rule-requires c = ((t_found c.args.file.now c.args.n c.requires.0 (c.loop-k.k + 1) (omega arith) (omega (arith, c.loop-k-test.true)) c.slot-t.ensures), c.key-key.ensures.long)
-
-pub shape_of-out : goal.shape_of-out
-shape_of-out c = same_room c.args.page c.args.file.now c.args.transfer.now c.args.cheque.now c.args.codes.now c.args.n c.requires.0 c.args.out.now c.requires.1 c.loop-k.k c.loop-k.invariant.1 c.loop-k.invariant.0
+    let l = c.loop-t in
+    let at = (goal.at.loop-t-preserved c).After-first_rule in
+    let filed = FiledSoFar a.terms.now.page a.file.now a.terms.now.transfer.now a.terms.now.cheque.now a.codes.now a.out.now (l.t-index + 1) in
+    elim c.match-first_rule.branch [
+      | in-Some w ↦
+          subst2 filed (sym w.at-is) (sym w.out-is)
+          (turn_filed a.terms.now.page a.file.now a.terms.now.transfer.now a.terms.now.cheque.now a.codes.now c.requires.0.0 c.requires.0.1 a.out.now c.requires.1 l.t-index l.invariant (more at)
+          (sym w.in-Some.is ∙ told at) (noted_is (ap₂ (λ (q t : List ℕ). m8_of a.terms.now.page q (code_of a.codes.now w.in-Some.rule) t) c.whole-q.ensures (is at)) w.payment-at.ensures))
+      | in_default w ↦
+          subst2 filed (sym w.at-is) (sym w.out-is)
+          (turn_passed a.terms.now.page a.file.now a.terms.now.transfer.now a.terms.now.cheque.now a.codes.now c.requires.0.0 c.requires.0.1 a.out.now c.requires.1 l.t-index l.invariant (more at)
+          (sym w.in_default.is ∙ told at))
+    ]
 
 pub returns : goal.returns
-returns c = turns_end c.args.page c.args.file.now c.args.transfer.now c.args.cheque.now c.args.codes.now c.args.n c.requires.0 c.args.out.now c.requires.1 c.loop-k.k c.loop-k.invariant.1 c.loop-k.invariant.0 c.loop-k-test.false
+returns c =
+    let a = c.args in
+    let n = c.requires.0.0 in
+    let all = turns_count a.file.now n c.requires.0.1 c.t_records-t-items.ensures in
+    turns_end a.terms.now.page a.file.now a.terms.now.transfer.now a.terms.now.cheque.now a.codes.now n c.requires.0.1 a.out.now c.requires.1 c.loop-t.t-index c.loop-t.invariant (omega (arith, all)) (omega (arith, all))

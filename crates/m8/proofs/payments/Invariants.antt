@@ -1,10 +1,6 @@
-use Prim.Native.Nat.{◌-◌, ◌≤◌}
 use Rattle.m8.specs.Course.{FiledSoFar}
 use Rattle.m8.proofs.payments.Given as goal
 
--- The records of the first k payments are written.
-abbrev pub invariant-loop-k : goal.invariant-loop-k
-invariant-loop-k l = (l.k ≤ l.n) × FiledSoFar l.page l.file l.transfer l.cheque l.codes l.initial.out l.k l.at l.out
-
-abbrev pub decreases-loop-k : goal.decreases-loop-k
-decreases-loop-k l = l.n - l.k
+-- The records of the payments before this one are written.
+abbrev pub invariant-loop-t : goal.invariant-loop-t
+invariant-loop-t l = FiledSoFar l.terms.page l.file l.terms.transfer.now l.terms.cheque.now l.codes l.initial.out l.t-index l.at l.out

@@ -11,4 +11,4 @@ returns-clause-output c =
     let a = c.args in
     let rec = a.rec.now in
     c.field.ensures.output [] (c.copy_from_slice.ensures.after ∙ none_replaced a.page rec)
-    ∙ ap (λ (s : Span). fwd (rep a.page) (lies (s ∷ [])) 0 rec) c.text.ensures
+    ∙ ap (λ (s : Span). fwd (rep a.page) (lies (s ∷ [])) 0 rec) c.place.ensures

@@ -1,39 +1,28 @@
-use native.Mathlib.Omega.{arith}
+use Rattle.std.proofs.Common.{◌≤◌, length, rules, arith}
+use Rattle.forwarding.specs.Forwarded.{notes_of}
 use Rattle.prepare.specs.Outcome.{enough_places, sent_60, sent_61, sent_0}
 use Rattle.prepare.proofs.send.Goals as goal
 
-pub returns-then-out-file : goal.returns-then-out-file
-returns-then-out-file c =
-    let a = c.args in
-    sent_60 a.page a.file.now a.out.now a.notes.now c.refusal.ensures c.if-out-file.true
+pub returns-in_err-room-clause-answer : goal.returns-in_err-room-clause-answer
+returns-in_err-room-clause-answer c = search (rules, sent_60)
 
-pub file-all-requires : goal.file-all-requires
-file-all-requires c = (
-  c.requires,
-  c.if-out-file.false,
-  (let a = c.args in
-      enough_places a.page a.file.now a.notes.now c.requires c.enough.ensures c.if-enough-notes.true),
-)
+pub file-requires : goal.file-requires
+file-requires c = search (rules, enough_places)
 
-pub returns-then-enough-notes : goal.returns-then-enough-notes
-returns-then-enough-notes c =
+pub returns-then-enough-notes-clause-answer : goal.returns-then-enough-notes-clause-answer
+returns-then-enough-notes-clause-answer c =
     let a = c.args in
-    let w = c.file-all.ensures in
-    sent_0 a.page a.file.now a.out.now a.notes.now c.if-out-file.false (let a = c.args in
-    enough_places a.page a.file.now a.notes.now c.requires c.enough.ensures c.if-enough-notes.true) w.output w.noted
+    let places : length (notes_of a.page a.file.now) ≤ length a.notes.now = search (rules, enough_places) in
+    search (rules, sent_0 a.page a.file.now a.out.now a.notes.now)
 
 -- or their number is known first
-pub returns-then-notes-changes : goal.returns-then-notes-changes
-returns-then-notes-changes c =
-    let a = c.args in
-    sent_61 a.page a.file.now a.out.now a.notes.now c.if-out-file.false c.refusal-then-notes-changes.ensures (omega (arith, c.if-notes-changes.true, c.file-changes.ensures a.page))
+pub returns-in_err-room-2-clause-answer : goal.returns-in_err-room-2-clause-answer
+returns-in_err-room-2-clause-answer c =
+    let changes = c.file-changes.ensures c.args.page in
+    search (rules, sent_61)
 
-pub write-n-requires : goal.write-n-requires
-write-n-requires c =
-    (c.requires, c.if-out-file.false, c.file-changes.ensures c.args.page, c.if-notes-changes.false)
-
-pub returns : goal.returns
-returns c =
+pub returns-clause-answer : goal.returns-clause-answer
+returns-clause-answer c =
     let a = c.args in
-    let w = c.write-n.ensures in
-    sent_0 a.page a.file.now a.out.now a.notes.now c.if-out-file.false (omega (arith, c.if-notes-changes.false, c.file-changes.ensures a.page)) w.output w.noted
+    let places : length (notes_of a.page a.file.now) ≤ length a.notes.now = omega (arith, c.file-changes.ensures a.page) in
+    search (rules, sent_0 a.page a.file.now a.out.now a.notes.now)

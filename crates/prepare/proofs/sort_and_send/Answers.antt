@@ -1,27 +1,27 @@
+use Rattle.std.proofs.Common.{rules, refl}
 use Rattle.prepare.specs.DefaultOutcome.{few, default_refused, default_short, can_send, default_sent}
 use Rattle.prepare.proofs.sort_and_send.Goals as goal
 
-pub returns-then-number-ne0 : goal.returns-then-number-ne0
-returns-then-number-ne0 c =
-    let a = c.args in
-    default_refused a.page a.file.now a.transfer.now a.cheque.now a.out.now a.notes.now a.list.now c.sort-sorted.ensures c.if-number-ne0.true
+pub returns-in_err-going : goal.returns-in_err-going
+returns-in_err-going c = search (rules, default_refused)
 
-pub room_missing-short-requires : goal.room_missing-short-requires
-room_missing-short-requires c =
-    let a = c.args in
-    few a.page a.file.now a.transfer.now a.cheque.now a.out.now a.notes.now a.list.now c.sort-sorted.ensures c.if-number-ne0.false
+pub room_missing-requires : goal.room_missing-requires
+room_missing-requires c = search (rules, few)
 
-pub returns-then-short-ne0 : goal.returns-then-short-ne0
-returns-then-short-ne0 c =
+pub returns-in_err-room_missing : goal.returns-in_err-room_missing
+returns-in_err-room_missing c =
     let a = c.args in
-    default_short a.page a.file.now a.transfer.now a.cheque.now a.out.now a.notes.now a.list.now c.sort-sorted.ensures c.if-number-ne0.false c.room_missing-short.ensures c.if-short-ne0.true c.refusal.ensures
+    let found = c.in_ok-going.ensures.answer in
+    search (rules, default_short a.terms.now.page a.file.now a.terms.now.transfer.now a.terms.now.cheque.now a.out.now a.notes.now a.list.now found refl)
 
-pub send_kept-requires : goal.send_kept-requires
-send_kept-requires c =
+pub file-requires : goal.file-requires
+file-requires c =
     let a = c.args in
-    can_send a.page a.file.now a.transfer.now a.cheque.now a.out.now a.notes.now a.list.now c.sort-sorted.ensures c.if-number-ne0.false c.room_missing-short.ensures c.if-short-ne0.false
+    let found = c.in_ok-going.ensures.answer in
+    can_send a.terms.now.page a.file.now a.terms.now.transfer.now a.terms.now.cheque.now a.out.now a.notes.now a.list.now found refl c.in_ok-room_missing.ensures
 
 pub returns : goal.returns
 returns c =
     let a = c.args in
-    default_sent a.page a.file.now a.transfer.now a.cheque.now a.out.now a.notes.now a.list.now c.sort-sorted.ensures c.if-number-ne0.false c.room_missing-short.ensures c.if-short-ne0.false c.send_kept.ensures
+    let found = c.in_ok-going.ensures.answer in
+    default_sent a.terms.now.page a.file.now a.terms.now.transfer.now a.terms.now.cheque.now a.out.now a.notes.now a.list.now found refl c.in_ok-room_missing.ensures c.file.ensures

@@ -15,6 +15,6 @@ loop-width-preserved c =
     let low = ready_le l.tally.stop l.tally.next (length a.cut.now - l.at) c.in-Some.width w in (
       omega (arith, low, l.invariant.0),
       rw c.settle-tally.ensures (steady_settle _ _ _ _ _ l.invariant.1),
-      l.invariant.2 ∙ turn a.page a.transfer.now a.cheque.now l.tally a.cut.now l.at c.in-Some.width h.0 h.1 (omega (arith, low, l.invariant.0))
-          ∙ ap (λ (x : Tally). eat a.page a.transfer.now a.cheque.now (mid x []) (drop (l.at + c.in-Some.width) a.cut.now)) (sym c.settle-tally.ensures),
+      l.invariant.2 ∙ turn a.terms.now.page a.terms.now.transfer.now a.terms.now.cheque.now l.tally a.cut.now l.at c.in-Some.width h.0 h.1 (omega (arith, low, l.invariant.0))
+          ∙ ap (λ (x : Tally). eat a.terms.now.page a.terms.now.transfer.now a.terms.now.cheque.now (mid x []) (drop (l.at + c.in-Some.width) a.cut.now)) (sym c.settle-tally.ensures),
     )

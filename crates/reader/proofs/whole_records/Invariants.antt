@@ -7,7 +7,7 @@ use Rattle.reader.proofs.whole_records.Given as goal
 abbrev pub invariant-loop-width : goal.invariant-loop-width
 invariant-loop-width l =
     (l.at ≤ length l.cut) × Steady l.tally
-    × (eat l.page l.transfer l.cheque (mid l.initial.tally []) l.cut ≡ eat l.page l.transfer l.cheque (mid l.tally []) (drop l.at l.cut))
+    × (eat l.terms.page l.terms.transfer.now l.terms.cheque.now (mid l.initial.tally []) l.cut ≡ eat l.terms.page l.terms.transfer.now l.terms.cheque.now (mid l.tally []) (drop l.at l.cut))
 
 abbrev pub decreases-loop-width : goal.decreases-loop-width
 decreases-loop-width l = length l.cut - l.at

@@ -1,37 +1,40 @@
-use Rattle.std.proofs.Common.{rules, ◌≡◌, ◌+◌, ◌*◌, ◌<◌, length, ℕ, ◌-◌, ◌≤◌, ◌/◌, ◌%◌, Bool, true, false, nat_eq, nat_lt, List, [], ◌∷◌, ◌++◌, slice_index_or, slice_set, bit_and, bit_or, w8, w32, w64, Bor, MutBor}
-use Rattle.laws.specs.Found.{nonzero, or_zero}
-use Rattle.sorting.specs.Kept.{digits, fresh_z}
-use Rattle.structure.specs.Walk.{structure_of}
-use Rattle.structure.specs.declared.Shape.TheVariants.{Fits}
-use Rattle.sending.specs.Turns.{Paid, RoomFor}
-use Rattle.sending.specs.Sending.{RoomsIn, Sent}
-use Rattle.sending.specs.Whole.{CanSend, FileSent}
+use Rattle.std.proofs.Common.{refl, arith, lit<, ◌+◌}
+use Rattle.forwarding.specs.Between.{between_long}
+use Rattle.sorting.specs.Frame.{fit, q_there, z_there}
+use Rattle.sending.specs.Whole.{q_out, q_places, rooms_behind, all_sent}
 use Rattle.sending.proofs.file.Goals as goal
 
--- src/lib.rt:123:41
+pub whole-q-requires : goal.whole-q-requires
+whole-q-requires c = (lit< tt, q_there c.args.file.now (c.args.going.payments.kept + c.args.going.payments.returned) c.requires.fits)
+
 pub slice_bounds-q_record-end : goal.slice_bounds-q_record-end
-slice_bounds-q_record-end c = ?
+slice_bounds-q_record-end c = let a = c.args in
+    q_out a.terms.now.page a.file.now (c.args.going.payments.kept + c.args.going.payments.returned) a.terms.now.transfer.now a.terms.now.cheque.now c.requires
 
--- src/lib.rt:123:9
 pub q_record-have-requires : goal.q_record-have-requires
-q_record-have-requires c = ?
+q_record-have-requires c =
+    let a = c.args in
+    (between_long 0 256 a.out.now (q_out a.terms.now.page a.file.now (c.args.going.payments.kept + c.args.going.payments.returned) a.terms.now.transfer.now a.terms.now.cheque.now c.requires), q_places a.terms.now.page a.file.now (c.args.going.payments.kept + c.args.going.payments.returned) a.terms.now.transfer.now a.terms.now.cheque.now c.requires c.whole-q.ensures)
 
--- src/lib.rt:124:9
 pub t_records-next-requires : goal.t_records-next-requires
-t_records-next-requires c = ?
+t_records-next-requires c =
+    let a = c.args in
+    let q = c.q_record-have.ensures in
+    ((_, c.requires.fits), rooms_behind a.terms.now.page a.file.now (c.args.going.payments.kept + c.args.going.payments.returned) a.terms.now.transfer.now a.terms.now.cheque.now c.requires c.whole-q.ensures q.output refl q.noted)
 
--- src/lib.rt:126:35
 pub overflow_add-n : goal.overflow_add-n
-overflow_add-n c = ?
+overflow_add-n c =
+    let n = c.args.going.payments.kept + c.args.going.payments.returned in
+    omega (arith, (fit c.args.file.now n c.requires.fits).most)
 
--- src/lib.rt:126:13
-pub slot-requires : goal.slot-requires
-slot-requires c = ?
+pub overflow_add-n-2 : goal.overflow_add-n-2
+overflow_add-n-2 c = omega (arith, (fit c.args.file.now (c.args.going.payments.kept + c.args.going.payments.returned) c.requires.fits).most)
 
--- src/lib.rt:126:9
-pub unwrap-z-requires : goal.unwrap-z-requires
-unwrap-z-requires c = ?
+pub whole-z-requires : goal.whole-z-requires
+whole-z-requires c = (lit< tt, z_there c.args.file.now (c.args.going.payments.kept + c.args.going.payments.returned) c.requires.fits)
 
--- src/lib.rt:107:1
 pub returns : goal.returns
-returns c = ?
+returns c =
+    let a = c.args in
+    let q = c.q_record-have.ensures in
+    all_sent a.terms.now.page a.file.now (c.args.going.payments.kept + c.args.going.payments.returned) a.terms.now.transfer.now a.terms.now.cheque.now c.requires c.whole-q.ensures q.output refl q.noted c.t_records-next.ensures c.whole-z.ensures c.fresh_z.ensures

@@ -1,45 +1,64 @@
-use Rattle.std.proofs.Common.{rules, ◌≡◌, ◌+◌, ◌*◌, ◌<◌, length, ℕ, ◌-◌, ◌≤◌, ◌/◌, ◌%◌, Bool, true, false, nat_eq, nat_lt, List, [], ◌∷◌, ◌++◌, slice_index_or, slice_set, bit_and, bit_or, w8, w32, w64, Bor, MutBor}
+use Rattle.std.proofs.Common.{◌≡◌, ◌+◌, ◌<◌, ap, ap₂, sym, subst, ◌∙◌, arith, lit<, ℕ, List, [], get_or}
 use Rattle.laws.specs.Found.{nonzero, or_zero}
-use Rattle.sorting.specs.Kept.{digits, fresh_z}
-use Rattle.structure.specs.Walk.{structure_of}
-use Rattle.structure.specs.declared.Shape.TheVariants.{Fits}
-use Rattle.sending.specs.Turns.{Paid, RoomFor}
-use Rattle.sending.specs.Sending.{RoomsIn, Sent}
-use Rattle.sending.specs.Whole.{CanSend, FileSent}
+use Rattle.payments.specs.Rules.{key_of}
+use Rattle.structure.specs.Slots.{slot_at}
+use Rattle.sorting.specs.Kept.{first_of, rule_in}
+use Rattle.sorting.specs.Frame.{fit, sized, turns_count, turn_slot, t_there}
+use Rattle.sending.specs.Turns.{RoomFor, paid_is}
+use Rattle.sending.specs.Sending.{send_first, one_room, one_sent, send_last}
 use Rattle.sending.proofs.t_records.Goals as goal
+use Rattle.sending.proofs.t_records.Goals.{After-first_rule-rule}
 
--- src/lib.rt:92:29
-pub slot-requires : goal.slot-requires
-slot-requires c = ?
+pub whole-requires : goal.whole-requires
+whole-requires c =
+    let e = c.requires.0.1 in
+    (lit< tt, t_there c.args.file.now c.requires.0.0 e 1 (omega arith) (fit c.args.file.now c.requires.0.0 e).some)
 
--- src/lib.rt:92:9
-pub key-key-requires : goal.key-key-requires
-key-key-requires c = ?
+pub t_records-t-items-requires : goal.t_records-t-items-requires
+t_records-t-items-requires c = sized c.args.file.now c.requires.0.0 c.requires.0.1
 
--- src/lib.rt:98:17
-pub overflow_add-k-end : goal.overflow_add-k-end
-overflow_add-k-end c = ?
+pub loop-i-init : goal.loop-i-init
+loop-i-init c =
+    let a = c.args in
+    let t = a.terms.now in
+    send_first t.page a.file.now t.transfer.now t.cheque.now c.requires.0.0 c.requires.0.1 a.have a.out.now a.notes.now a.list.now c.requires.1
 
--- src/lib.rt:98:5
-pub loop-k-init : goal.loop-k-init
-loop-k-init c = ?
+-- the payment of this turn, and what `first_rule` says of it
+more : (c : After-first_rule-rule) → c.loop-i.i < c.requires.0.0
+more c = omega (arith, turns_count c.args.file.now c.requires.0.0 c.requires.0.1 c.t_records-t-items.ensures)
 
--- src/lib.rt:99:17
-pub slot-requires-in-loop-k : goal.slot-requires-in-loop-k
-slot-requires-in-loop-k c = ?
+is : (c : After-first_rule-rule) → get_or c.t_records-t-items.result.now c.loop-i.i [] ≡ slot_at c.args.file.now (c.loop-i.i + 1)
+is c = turn_slot c.args.file.now c.requires.0.0 c.requires.0.1 c.t_records-t-items.ensures c.loop-i.i (more c)
 
--- src/lib.rt:99:13
-pub unwrap-t-requires : goal.unwrap-t-requires
-unwrap-t-requires c = ?
+told : (c : After-first_rule-rule)
+    → c.first_rule-rule.result
+    ≡ nonzero (rule_in c.args.terms.now.page c.args.file.now c.args.terms.now.transfer.now c.args.terms.now.cheque.now (slot_at c.args.file.now (c.loop-i.i + 1)))
+told c =
+    let t = c.args.terms.now in
+    c.first_rule-rule.ensures ∙ ap nonzero (ap₂ (first_of t.page t.transfer.now t.cheque.now) (c.key-key.ensures.bytes ∙ ap key_of c.whole.ensures) (is c))
 
--- src/lib.rt:101:9
 pub payment-next-requires : goal.payment-next-requires
-payment-next-requires c = ?
+payment-next-requires c =
+    let a = c.args in
+    let t = a.terms.now in
+    let l = c.loop-i in
+    let at = (goal.at.payment-next-requires c).After-first_rule-rule in
+    let room = one_room t.page a.file.now t.transfer.now t.cheque.now c.requires.0.0 c.requires.0.1 a.have a.out.now a.notes.now a.list.now c.requires.1 l.i (more at) l.invariant _ (told at) in
+    (room.0, subst (λ (t : List ℕ). RoomFor t (l.i + 1) (or_zero c.first_rule-rule.result) l.next l.out l.notes l.list) (sym (is at)) room.1)
 
--- src/lib.rt:98:5
-pub loop-k-preserved : goal.loop-k-preserved
-loop-k-preserved c = ?
+pub loop-i-preserved : goal.loop-i-preserved
+loop-i-preserved c =
+    let a = c.args in
+    let t = a.terms.now in
+    let l = c.loop-i in
+    let at = (goal.at.loop-i-preserved c).After-first_rule-rule in
+    one_sent t.page a.file.now t.transfer.now t.cheque.now c.requires.0.0 c.requires.0.1 a.have a.out.now a.notes.now a.list.now c.requires.1 l.i (more at) l.invariant _ (told at)
+    (paid_is (is at) c.payment-next.ensures)
 
--- src/lib.rt:78:1
 pub returns : goal.returns
-returns c = ?
+returns c =
+    let a = c.args in
+    let t = a.terms.now in
+    let all = turns_count a.file.now c.requires.0.0 c.requires.0.1 c.t_records-t-items.ensures in
+    send_last t.page a.file.now t.transfer.now t.cheque.now c.requires.0.0 c.requires.0.1 a.have a.out.now a.notes.now a.list.now c.requires.1 c.loop-i.i
+    (omega (arith, all)) c.loop-i.invariant (omega (arith, all))

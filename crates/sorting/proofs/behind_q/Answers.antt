@@ -12,16 +12,16 @@ pub returns-in_err-amounts : goal.returns-in_err-amounts
 returns-in_err-amounts c =
     let a = c.args in
     let p = err_from_is_err_and c.from_residual.result c.from_residual.ensures.1 in
-    rw (p.1, p.2) (told_33 a.page a.file.now a.transfer.now a.cheque.now a.n c.requires.0 c.in_err-amounts.ensures)
+    rw (p.1, p.2) (told_33 a.terms.now.page a.file.now a.terms.now.transfer.now a.terms.now.cheque.now a.n c.requires.0 c.in_err-amounts.ensures)
 
 pub returns-in_err-z_rules : goal.returns-in_err-z_rules
 returns-in_err-z_rules c =
     let a = c.args in
     let r = c.from_residual-in_err-z_rules in
     let p = err_from_is_err_and r.result r.ensures.1 in
-    rw (p.1, p.2) (told_z a.page a.file.now a.transfer.now a.cheque.now a.n c.requires.0 c.in_ok-amounts.ensures c.in_err-z_rules.ensures)
+    rw (p.1, p.2) (told_z a.terms.now.page a.file.now a.terms.now.transfer.now a.terms.now.cheque.now a.n c.requires.0 c.in_ok-amounts.ensures c.in_err-z_rules.ensures)
 
 pub going_on-requires : goal.going_on-requires
 going_on-requires c =
     let a = c.args in
-    kept_le a.page a.file.now a.transfer.now a.cheque.now a.n c.requires.0 c.count_kept-kept.ensures c.requires.1
+    kept_le a.terms.now.page a.file.now a.terms.now.transfer.now a.terms.now.cheque.now a.n c.requires.0 c.count_kept-kept.ensures c.requires.1

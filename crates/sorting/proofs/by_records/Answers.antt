@@ -22,16 +22,16 @@ file-requires c =
 pub returns-in-Ok : goal.returns-in-Ok
 returns-in-Ok c =
     let a = c.args in
-    told_whole a.page a.file.now a.transfer.now a.cheque.now a.n c.requires c.sum-euros.ensures.0 refl (was_whole _ c.in-Ok.ensures) (c.file.ensures a.page) c.whole.ensures
+    told_whole a.terms.now.page a.file.now a.terms.now.transfer.now a.terms.now.cheque.now a.n c.requires c.sum-euros.ensures.0 refl (was_whole _ c.in-Ok.ensures) (c.file.ensures a.terms.now.page) c.whole.ensures
 
 pub returns-in-Err : goal.returns-in-Err
 returns-in-Err c =
     let a = c.args in
     let b = was_broken c.in-Err.ensures in
-    told_q a.page a.file.now a.transfer.now a.cheque.now a.n c.requires c.sum-euros.ensures.0 b.0 b.1 c.if-broken-lt20.true
+    told_q a.terms.now.page a.file.now a.terms.now.transfer.now a.terms.now.cheque.now a.n c.requires c.sum-euros.ensures.0 b.0 b.1 c.if-broken-lt20.true
 
 pub returns-in-Err-2 : goal.returns-in-Err-2
 returns-in-Err-2 c =
     let a = c.args in
     let b = was_broken c.in-Err.ensures in
-    told_later a.page a.file.now a.transfer.now a.cheque.now a.n c.requires c.sum-euros.ensures.0 b.0 c.if-broken-lt20.false c.behind_q.ensures
+    told_later a.terms.now.page a.file.now a.terms.now.transfer.now a.terms.now.cheque.now a.n c.requires c.sum-euros.ensures.0 b.0 c.if-broken-lt20.false c.behind_q.ensures

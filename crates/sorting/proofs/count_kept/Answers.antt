@@ -22,13 +22,13 @@ t_records-t-items-requires c = sized c.args.file.now c.requires.0 c.requires.1
 pub loop-t-init : goal.loop-t-init
 loop-t-init c =
     let a = c.args in
-    counted_q a.page a.file.now a.transfer.now a.cheque.now c.requires.0 c.requires.1 (c.q_record.ensures ∙ ap (field_changes q_texts) c.whole-2.ensures)
+    counted_q a.terms.now.page a.file.now a.terms.now.transfer.now a.terms.now.cheque.now c.requires.0 c.requires.1 (c.q_record.ensures ∙ ap (field_changes q_texts) c.whole-2.ensures)
 
 pub with_one-sum-requires : goal.with_one-sum-requires
 with_one-sum-requires c =
     let a = c.args in
     let more : c.loop-t.t-index < c.requires.0 = omega (arith, turns_count a.file.now c.requires.0 c.requires.1 c.t_records-t-items.ensures) in
-    counted_small a.page a.file.now a.transfer.now a.cheque.now c.requires.0 c.requires.1 c.loop-t.t-index more c.loop-t.invariant
+    counted_small a.terms.now.page a.file.now a.terms.now.transfer.now a.terms.now.cheque.now c.requires.0 c.requires.1 c.loop-t.t-index more c.loop-t.invariant
 
 -- the payment of this turn, and what `first_rule` says of it
 more : (c : goal.Joined-is_none) → c.loop-t.t-index < c.requires.0
@@ -38,23 +38,23 @@ is : (c : goal.Joined-is_none) → get_or c.t_records-t-items.result.now c.loop-
 is c = turn_slot c.args.file.now c.requires.0 c.requires.1 c.t_records-t-items.ensures c.loop-t.t-index (more c)
 
 told : (c : goal.Joined-is_none)
-    → c.first_rule.result ≡ nonzero (rule_in c.args.page c.args.file.now c.args.transfer.now c.args.cheque.now (slot_at c.args.file.now (c.loop-t.t-index + 1)))
+    → c.first_rule.result ≡ nonzero (rule_in c.args.terms.now.page c.args.file.now c.args.terms.now.transfer.now c.args.terms.now.cheque.now (slot_at c.args.file.now (c.loop-t.t-index + 1)))
 told c =
     let a = c.args in
-    c.first_rule.ensures ∙ ap nonzero (ap₂ (first_of a.page a.transfer.now a.cheque.now) (c.key-key.ensures.bytes ∙ ap key_of c.whole.ensures) (is c))
+    c.first_rule.ensures ∙ ap nonzero (ap₂ (first_of a.terms.now.page a.terms.now.transfer.now a.terms.now.cheque.now) (c.key-key.ensures.bytes ∙ ap key_of c.whole.ensures) (is c))
 
 pub loop-t-preserved : goal.loop-t-preserved
 loop-t-preserved c =
     let a = c.args in
     let l = c.loop-t in
-    let counted = CountedIn a.page a.file.now a.transfer.now a.cheque.now (l.t-index + 1) in
+    let counted = CountedIn a.terms.now.page a.file.now a.terms.now.transfer.now a.terms.now.cheque.now (l.t-index + 1) in
     elim c.if-is_none.branch [
       | then-is_none w ↦
           subst counted (sym (w.sum-is ∙ w.with_one-sum.ensures ∙ ap (with_one l.sum 0) (is c)))
-          (counted_kept a.page a.file.now a.transfer.now a.cheque.now c.requires.0 c.requires.1 l.t-index (more c) l.invariant _ (told c) (c.is_none.ensures ∙ ap not w.if-is_none.true))
+          (counted_kept a.terms.now.page a.file.now a.terms.now.transfer.now a.terms.now.cheque.now c.requires.0 c.requires.1 l.t-index (more c) l.invariant _ (told c) (c.is_none.ensures ∙ ap not w.if-is_none.true))
       | else-is_none w ↦
           subst counted (sym w.sum-is)
-          (counted_returned a.page a.file.now a.transfer.now a.cheque.now c.requires.0 c.requires.1 l.t-index (more c) l.invariant _ (told c) (c.is_none.ensures ∙ ap not w.if-is_none.false))
+          (counted_returned a.terms.now.page a.file.now a.terms.now.transfer.now a.terms.now.cheque.now c.requires.0 c.requires.1 l.t-index (more c) l.invariant _ (told c) (c.is_none.ensures ∙ ap not w.if-is_none.false))
     ]
 
 pub returns : goal.returns
@@ -62,5 +62,5 @@ returns c =
     let a = c.args in
     let l = c.loop-t in
     let all : l.t-index ≡ c.requires.0 = omega (arith, turns_count a.file.now c.requires.0 c.requires.1 c.t_records-t-items.ensures) in
-    counted_all a.page a.file.now a.transfer.now a.cheque.now c.requires.0 c.requires.1
-    (subst (λ (m : ℕ). CountedIn a.page a.file.now a.transfer.now a.cheque.now m l.sum) all l.invariant)
+    counted_all a.terms.now.page a.file.now a.terms.now.transfer.now a.terms.now.cheque.now c.requires.0 c.requires.1
+    (subst (λ (m : ℕ). CountedIn a.terms.now.page a.file.now a.terms.now.transfer.now a.terms.now.cheque.now m l.sum) all l.invariant)

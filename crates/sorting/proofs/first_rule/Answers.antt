@@ -9,9 +9,9 @@ run-requires c = one_lies c.args.t.now 1 (omega arith) 1 (omega arith) c.told-t
 pub returns-in_err-found : goal.returns-in_err-found
 returns-in_err-found c =
     let a = c.args in
-    c.from_residual.ensures ∙ alone_none a.page a.transfer.now a.cheque.now a.key.now a.t.now c.told-t c.in_err-found.ensures
+    c.from_residual.ensures ∙ alone_none a.terms.now.page a.terms.now.transfer.now a.terms.now.cheque.now a.key.now a.t.now c.told-t c.in_err-found.ensures
 
 pub returns : goal.returns
 returns c =
     let a = c.args in
-    alone_some a.page a.transfer.now a.cheque.now a.key.now a.t.now c.told-t c.in_ok-found.ensures
+    alone_some a.terms.now.page a.terms.now.transfer.now a.terms.now.cheque.now a.key.now a.t.now c.told-t c.in_ok-found.ensures

@@ -17,14 +17,14 @@ overflow_add-n-2 c = omega (arith, (fit c.args.file.now c.args.n c.requires.0).m
 pub run-requires : goal.run-requires
 run-requires c =
     let a = c.args in
-    z_lies a.page a.file.now a.transfer.now a.cheque.now a.n c.requires.0
+    z_lies a.terms.now.page a.file.now a.terms.now.transfer.now a.terms.now.cheque.now a.n c.requires.0
 
 pub returns-in-Some : goal.returns-in-Some
 returns-in-Some c =
     let a = c.args in
-    failed _ (c.in-Some.ensures ∙ ap broken (z_same a.page a.file.now a.transfer.now a.cheque.now a.n c.requires.0 (c.key-key.ensures.bytes ∙ ap key_of c.whole.ensures) c.requires.1))
+    failed _ (c.in-Some.ensures ∙ ap broken (z_same a.terms.now.page a.file.now a.terms.now.transfer.now a.terms.now.cheque.now a.n c.requires.0 (c.key-key.ensures.bytes ∙ ap key_of c.whole.ensures) c.requires.1))
 
 pub returns-in-None : goal.returns-in-None
 returns-in-None c =
     let a = c.args in
-    passed _ (c.in-None.ensures ∙ ap broken (z_same a.page a.file.now a.transfer.now a.cheque.now a.n c.requires.0 (c.key-key.ensures.bytes ∙ ap key_of c.whole.ensures) c.requires.1))
+    passed _ (c.in-None.ensures ∙ ap broken (z_same a.terms.now.page a.file.now a.terms.now.transfer.now a.terms.now.cheque.now a.n c.requires.0 (c.key-key.ensures.bytes ∙ ap key_of c.whole.ensures) c.requires.1))

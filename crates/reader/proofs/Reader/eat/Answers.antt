@@ -6,11 +6,11 @@ use Rattle.reader.proofs.Reader.eat.Goals as goal
 
 pub returns-then-self-ne0 : goal.returns-then-self-ne0
 returns-then-self-ne0 c =
-    eats_stopped _ _ c.args.self (search rules) (omega (arith, width_le c.args.self.tally.next)) _ c.if-self-ne0.true
+    eats_stopped _ _ _ c.args.self (search rules) (omega (arith, width_le c.args.self.tally.next)) _ c.if-self-ne0.true
 
 pub returns-in_default : goal.returns-in_default
 returns-in_default c =
-    eats_held _ _ c.args.self (search rules) (omega (arith, width_le c.args.self.tally.next)) _ c.if-self-ne0.false
+    eats_held _ _ _ c.args.self (search rules) (omega (arith, width_le c.args.self.tally.next)) _ c.if-self-ne0.false
     (omega (arith, c.in_default.ensures.cases)) c.hold-self.ensures
 
 pub rest-requires : goal.rest-requires
@@ -21,6 +21,6 @@ returns c =
     let a = c.args in
     let r = a.self in
     let cut = c.in-Some.ensures.cases in
-    eats_full _ _ r (search rules) (omega (arith, width_le r.tally.next)) _ c.if-self-ne0.false (omega arith) cut.0 (omega arith)
-    (c.across-first.ensures ∙ ap (λ (xs : List ℕ). settle_of r.page a.transfer.now a.cheque.now r.tally (pending r ++ xs)) cut.1)
-    (c.rest.ensures ∙ ap (λ (xs : List ℕ). packed r (eat r.page a.transfer.now a.cheque.now (mid c.across-first.result []) xs)) cut.2)
+    eats_full _ _ _ r (search rules) (omega (arith, width_le r.tally.next)) _ c.if-self-ne0.false (omega arith) cut.0 (omega arith)
+    (c.across-first.ensures ∙ ap (λ (xs : List ℕ). settle_of a.terms.now.page a.terms.now.transfer.now a.terms.now.cheque.now r.tally (pending r ++ xs)) cut.1)
+    (c.rest.ensures ∙ ap (λ (xs : List ℕ). packed r (eat a.terms.now.page a.terms.now.transfer.now a.terms.now.cheque.now (mid c.across-first.result []) xs)) cut.2)
