@@ -6,9 +6,9 @@ use mathlib.Core.List.{List, [], ◌∷◌, ◌++◌, map, append_assoc}
 use Rattle.std.proofs.Math.ListN.{length}
 use Rattle.std.proofs.lemmas.List.{length-map}
 use Rattle.laws.specs.Ascii.{ascii, zeros, spaces}
-use Rattle.charset.specs.Table.{rep, text}
+use Rattle.charset.specs.Table.{rep}
 use Rattle.records.specs.Places.{◌to◌, part, line_of, q_place, t_place}
-use Rattle.records.specs.Inside.{Held, held, inside, q_inside, t_inside}
+use Rattle.records.specs.Inside.{Held, held, q_inside, t_inside}
 use Rattle.records.specs.declared.Span.{Span}
 use Rattle.records.specs.declared.QField.{QField}
 use Rattle.records.specs.declared.TField.{TField}
