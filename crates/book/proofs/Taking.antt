@@ -17,6 +17,11 @@ pub record Asked (b : Book) (e : Entry) (kept : Book) (found : Bool) : Type 0 wh
   pub kept_is : kept ≡ on_day b e.day
   pub found_is : found ≡ holds e.number (held_in kept)
 
+-- r is what was answered of the figures
+pub asked : {b : Book} {e : Entry} {kept : Book} {r found : Bool} → r ≡ is_too_large e → r ≡ false → b.day ≤ e.day → kept ≡ on_day b e.day
+    → found ≡ holds e.number (held_in kept) → Asked b e kept found
+asked figures small in_time kept found = record { small = sym figures ∙ small; in_time = in_time; kept_is = kept; found_is = found }
+
 -- a take by what was found
 module _ (b : Book) (e : Entry) where
   by_answer : {a : ℕ} → a ≡ answer_of (model_of b) e → answered (cond (a == 0) (book_of (after (model_of b) e)) b) a ≡ taken_of b e

@@ -1,3 +1,4 @@
 pub mod Model
 pub mod Kept
 pub mod Laws
+pub mod Told

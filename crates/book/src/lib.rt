@@ -1,12 +1,11 @@
 // The book of taken files. A book is a value: it is handed in with each take, and comes back with the answer.
 #![tactic(auto)]
 
-ghost use Rattle.std.specs.Prelude.{◌≡◌, ◌<◌, min, [], take};
+ghost use Rattle.std.specs.Prelude.{◌≡◌, ◌<◌, ◌==◌, []};
 ghost use Rattle.book.specs.Model.{model, is_forgotten, is_too_large, holds};
-ghost use Rattle.book.specs.Kept.{entry_of, book_of, answered, NewBookAs, TakenAs, TotalsAs};
+ghost use Rattle.book.specs.Kept.{entry_of, held_in, book_of, taken_of, NewBookAs, TakenAs, TotalsAs};
 ghost use Rattle.book.specs.Laws.{on_day, with_entry};
-
-use std::num::wrapping_add_u64;
+ghost use Rattle.book.specs.Told.{number_of, told};
 
 const PLACES: usize = 200;
 
@@ -45,6 +44,15 @@ pub struct Taken {
     pub number: usize,
 }
 
+// Why a take is refused.
+#[derive(Clone, Copy, PartialEq, Eq)]
+enum Refusal {
+    Held,
+    Full,
+    TooEarly,
+    TooLarge,
+}
+
 // What a book says of itself: how many files are held, and the totals over them.
 #[repr(C)]
 #[derive(Drop)]
@@ -64,17 +72,20 @@ fn is_too_large(entry: Entry) -> bool
 fn is_forgotten(entry: Entry, day: u32) -> bool
     ensures { result ≡ is_forgotten day entry }
 {
-    let taken = entry.day;
-    if day < taken {
-        return false;
-    }
-    5 <= day - taken
+    5 <= day.saturating_sub(entry.day)
 }
 
-fn answer(book: Book, number: usize) -> Taken
-    ensures { result ≡ answered book number }
-{
-    Taken { book, number }
+impl Refusal {
+    fn number(self) -> usize
+        ensures { result ≡ number_of self }
+    {
+        match self {
+            Self::Held => 50,
+            Self::Full => 51,
+            Self::TooEarly => 52,
+            Self::TooLarge => 53,
+        }
+    }
 }
 
 impl Book {
@@ -97,6 +108,7 @@ impl Book {
         }
     }
 
+    #[tactic(auto, unfolding(crate::specs::Kept::new_of))]
     pub fn new() -> Self
         ensures { NewBookAs result }
     {
@@ -105,94 +117,90 @@ impl Book {
 
     // One more entry, in the place behind those that are held. The sums wrap, as the totals do of a book with figures that no
     // take passes.
-    fn with(mut self, entry: Entry) -> Self
-        requires { self.held < 200 }
-        ensures { result ≡ with_entry self entry }
+    fn put(&mut self, entry: Entry)
+        requires { self.old.held < 200 }
+        ensures { self.new ≡ with_entry self.old entry }
     {
-        let at = self.held;
-        self.places[at] = entry;
-        self.held = at + 1;
-        self.payments = wrapping_add_u64(self.payments, entry.payments);
-        self.euros = wrapping_add_u64(self.euros, entry.euros);
-        self
+        self.places[self.held] = entry;
+        self.held += 1;
+        self.payments = self.payments.wrapping_add(entry.payments);
+        self.euros = self.euros.wrapping_add(entry.euros);
     }
 
-    // How many places are read: as many as the book says, and at most all.
-    fn filled(self) -> usize
-        ensures { result ≡ min 200 self.held }
+    // The places that are read: as many as the book says, and at most all.
+    fn filled(&self) -> &[Entry]
+        ensures { result.now ≡ held_in self.now }
     {
-        let held = self.held;
-        if PLACES < held {
-            return PLACES;
-        }
-        held
+        &self.places[..self.held.min(PLACES)]
     }
 
     // The book on a day, without what is forgotten by then.
-    fn on(self, day: u32) -> Self
-        ensures { result ≡ on_day self day }
+    fn on(&self, day: u32) -> Self
+        ensures { result ≡ on_day self.now day }
     {
-        let old = self.places;
-        let end = self.filled();
         let mut kept = Self::empty(day);
-        let mut i = 0;
-        while i < end {
-            let entry = old[i];
-            // not by `with`: the book would be copied for each entry
-            if !is_forgotten(entry, day) {
-                let at = kept.held;
-                kept.places[at] = entry;
-                kept.held = at + 1;
-                kept.payments = wrapping_add_u64(kept.payments, entry.payments);
-                kept.euros = wrapping_add_u64(kept.euros, entry.euros);
+        for entry in self.filled() {
+            if !is_forgotten(*entry, day) {
+                kept.put(*entry);
             }
-            i += 1;
         }
         kept
     }
 
-    fn holds(self, number: u64) -> bool
-        ensures { result ≡ holds number (take self.held self.places) }
+    fn holds(&self, number: u64) -> bool
+        ensures { result ≡ holds number (held_in self.now) }
     {
-        let places = self.places;
-        let end = self.filled();
-        let mut found = false;
-        let mut i = 0;
-        while i < end {
-            let entry = places[i];
-            found = found | (entry.number == number);
-            i += 1;
+        self.filled().iter().any(|entry| entry.number == number)
+    }
+
+    fn is_full(&self) -> bool
+        ensures { result ≡ (self.now.held == 200) }
+    {
+        self.held == PLACES
+    }
+
+    // The book after a take.
+    #[tactic(auto, using(crate::proofs::Taking::too_large, crate::proofs::Taking::too_early))]
+    fn after(&self, entry: Entry) -> Result<Self, Refusal>
+        ensures { told self.now result ≡ taken_of self.now entry }
+    {
+        if is_too_large(entry) {
+            return Err(Refusal::TooLarge);
         }
-        found
+        if entry.day < self.day {
+            return Err(Refusal::TooEarly);
+        }
+        let mut kept = self.on(entry.day);
+        if kept.holds(entry.number) {
+            return Err(Refusal::Held);
+        }
+        if kept.is_full() {
+            return Err(Refusal::Full);
+        }
+        kept.put(entry);
+        Ok(kept)
     }
 
     pub fn take(self, number: u64, day: u32, payments: u64, euros: u64) -> Taken
         ensures { TakenAs self (entry_of number day payments euros) result }
     {
-        let book_day = self.day;
         let entry = Entry {
             number,
             day,
             payments,
             euros,
         };
-        if is_too_large(entry) {
-            return answer(self, 53);
+        match self.after(entry) {
+            Ok(book) => Taken { book, number: 0 },
+            Err(refusal) => Taken {
+                book: self,
+                number: refusal.number(),
+            },
         }
-        if day < book_day {
-            return answer(self, 52);
-        }
-        let kept = self.on(day);
-        if kept.holds(number) {
-            return answer(self, 50);
-        }
-        if kept.held == PLACES {
-            return answer(self, 51);
-        }
-        answer(kept.with(entry), 0)
     }
 
     // As they are stored: nothing is added up.
+    #[tactic(auto, unfolding(crate::specs::Kept::totals_of))]
     pub fn totals(self) -> Totals
         ensures { TotalsAs self result }
     {
