@@ -55,7 +55,8 @@ loop-t-preserved c =
       | in-Some w ↦
           subst2 filed (sym w.at-is) (sym w.out-is)
           (turn_filed _ _ _ _ a.codes.now c.requires.0.0 c.requires.0.1 a.out.now c.requires.1 l.t-index l.invariant (more at)
-          (sym w.in-Some.is ∙ told at) (noted_is (ap₂ (λ (q t : List ℕ). m8_of a.terms.now.page q (code_of a.codes.now w.in-Some.rule) t) c.whole-q.ensures (is at)) w.payment-at.ensures))
+          (sym w.in-Some.is ∙ told at)
+          (noted_is (ap₂ (λ (q t : List ℕ). m8_of a.terms.now.page q (code_of a.codes.now w.in-Some.rule) t) c.whole-q.ensures (is at)) w.payment-at.ensures))
       | in_default w ↦
           subst2 filed (sym w.at-is) (sym w.out-is)
           (turn_passed _ _ _ _ a.codes.now c.requires.0.0 c.requires.0.1 a.out.now c.requires.1 l.t-index l.invariant (more at)
