@@ -1,10 +1,8 @@
 -- The default way with a sound file: nothing is returned, the kept file is the file, and what sending it answers is the answer.
-use Rattle.std.specs.Prelude.{ℕ, ◌≡◌, Bool, true, not, eqb, length, Err}
+use Rattle.std.specs.Prelude.{ℕ, ◌≡◌, Bool, true, not, eqb, length, List, [], Err}
 use Rattle.std.proofs.Math.Path.{refl, ap, ap₂}
-use Rattle.std.proofs.Common.{sym, ◌∙◌, arith}
+use Rattle.std.proofs.Common.{sym, ◌∙◌, arith, eqb-true, le-ltb}
 use Rattle.std.proofs.Math.Bool.{false, cond}
-use mathlib.Core.List.{List, []}
-use borrow.Author.Tests.{eqb-true, le-ltb}
 use Rattle.std.proofs.Math.Dec.{ltb}
 use Rattle.laws.specs.Choice.{on_eq, off_eq}
 use Rattle.laws.specs.Steps.{empty}

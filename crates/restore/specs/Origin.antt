@@ -2,12 +2,11 @@
 -- notes. Restore accepts a pair exactly when some sound file yields it, and gives back that very file. The forwarded file is
 -- sound and yields itself, with no notes." The theorems: `one_sound_file`; `yielded_origin` and `origin_yielded`;
 -- `gives_back`; `yields_itself`.
-use Rattle.std.specs.Prelude.{ℕ, ◌+◌, ◌≤◌, ◌≡◌, Bool, true, false, cond, eqb, ltb, length, take, drop}
+use Rattle.std.specs.Prelude.{ℕ, ◌+◌, ◌≤◌, ◌≡◌, Bool, true, false, cond, eqb, ltb, length, take, drop, List, []}
 use Rattle.std.proofs.Math.Path.{refl, sym, ap, ap₂}
-use Rattle.std.proofs.Common.{subst, ◌∙◌, arith, take_at}
+use Rattle.std.proofs.Common.{subst, ◌∙◌, arith, take_at, eq-eqb, eqb-true}
 use Rattle.std.proofs.Math.Bool.{◌&&◌}
-use mathlib.Core.List.{List, []}
-use borrow.Author.Tests.{eq-eqb, eqb-true, eqb-false}
+use Rattle.std.proofs.lemmas.Bool.{eqb-false}
 use Rattle.laws.specs.Choice.{on, on_eq, off_eq, off_lt, both}
 use Rattle.charset.specs.Table.{is_page}
 use Rattle.judge.specs.Verdict.{verdict_of}

@@ -84,13 +84,17 @@ module _ (page : ℕ) (g ns transfer cheque out : List ℕ) {there : Bool} (know
             out_is = h ∙ ap (λ (s : List ℕ). put 0 s out) (original_is page g ns transfer cheque yes);
           }
 
--- what is written: the file is copied, and the notes are put back
-module _ (g ns out : List ℕ) (inside_file : in_file (length g) ns ≡ true) {copied : List ℕ}
-    (copied_is : copied ≡ g ++ drop (length g) out) where
-  pub copy_holds : in_file (length copied) ns ≡ true
-  copy_holds = inside_more (length g) (length copied) ns (omega (arith, ap length copied_is, length-append g (drop (length g) out))) inside_file
+-- what is written: the file is copied to the front, and the notes are put back
+module _ (g ns out : List ℕ) (inside_file : in_file (length g) ns ≡ true) {front : List ℕ} (copied : front ≡ g) where
+  copied_is : front ++ drop (length g) out ≡ g ++ drop (length g) out
+  copied_is = ap (λ (s : List ℕ). s ++ drop (length g) out) copied
 
-  pub written : {out' : List ℕ} → out' ≡ put_notes copied ns → out' ≡ put 0 (put_notes g ns) out
+  pub copy_holds : in_file (length (front ++ drop (length g) out)) ns ≡ true
+  copy_holds =
+      let long = length-append g (drop (length g) out) in
+      inside_more (length g) (length (front ++ drop (length g) out)) ns (omega (arith, ap length copied_is, long)) inside_file
+
+  pub written : {out' : List ℕ} → out' ≡ put_notes (front ++ drop (length g) out) ns → out' ≡ put 0 (put_notes g ns) out
   written h =
       let long : length g ≡ 0 + length (put_notes g ns) = omega (arith, notes_length ns g) in
       h ∙ ap (λ (s : List ℕ). put_notes s ns) copied_is ∙ notes_in_front ns g (drop (length g) out) inside_file

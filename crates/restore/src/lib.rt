@@ -68,6 +68,7 @@ fn in_text(offset: usize) -> bool
 }
 
 // Whether a place of a file of n bytes is text.
+#[tactic(auto, using(crate::specs::Found::text_past, crate::specs::Found::text_in_q, crate::specs::Found::text_in_t))]
 fn is_text(n: usize, i: usize) -> bool
     ensures { result ≡ text_at n i }
 {
@@ -81,6 +82,7 @@ fn is_text(n: usize, i: usize) -> bool
 }
 
 // A note about place `from` or a later one: its byte is changed there, and becomes the byte that the file has.
+#[tactic(auto, using(crate::specs::Found::text_below, crate::specs::Found::note_on))]
 fn note_fits(page: u32, file: &[u8], from: usize, note: Note) -> bool
     ensures { result ≡ fits (rep page) (text_at (length file.now)) file.now from note }
 {

@@ -12,18 +12,14 @@ send-requires c = search (rules, sound_sized)
 
 pub returns-in_err-changes-in-Ok : goal.returns-in_err-changes-in-Ok
 returns-in_err-changes-in-Ok c =
-    let a = c.args in
     let told = err_from_is_err_and c.from_residual.result c.from_residual.ensures.1 in
     let found = c.in-Ok.ensures.answer in
-    let sent = c.in_err-changes-in-Ok.ensures in
+    let why = c.in_err-changes-in-Ok in
     rw (told.1, told.2)
-    (default_not_sent a.terms.now.page a.file.now a.terms.now.transfer.now a.terms.now.cheque.now a.out.now a.notes.now a.list.now c.is_page.ensures
-    c.in_err-changes-in-Ok.field-0.0 c.if-not-is_page.false found refl sent.answer sent.real)
+    (default_not_sent _ _ _ _ _ _ _ c.is_page.ensures why.field-0.0 c.if-not-is_page.false found refl why.ensures.answer why.ensures.real)
 
 pub returns-in_ok-changes-in-Ok : goal.returns-in_ok-changes-in-Ok
 returns-in_ok-changes-in-Ok c =
-    let a = c.args in
     let found = c.in-Ok.ensures.answer in
-    let sent = c.in_ok-changes-in-Ok.ensures in
-    default_sound a.terms.now.page a.file.now a.terms.now.transfer.now a.terms.now.cheque.now a.out.now a.notes.now a.list.now c.is_page.ensures c.if-not-is_page.false
-    found refl sent.answer c.whole.ensures
+    let sent = c.in_ok-changes-in-Ok.ensures.answer in
+    default_sound _ _ _ _ _ _ _ c.is_page.ensures c.if-not-is_page.false found refl sent c.whole.ensures

@@ -11,17 +11,12 @@ room_missing-requires c = search (rules, few)
 pub returns-in_err-room_missing : goal.returns-in_err-room_missing
 returns-in_err-room_missing c =
     let a = c.args in
+    let t = a.terms.now in
     let found = c.in_ok-going.ensures.answer in
-    search (rules, default_short a.terms.now.page a.file.now a.terms.now.transfer.now a.terms.now.cheque.now a.out.now a.notes.now a.list.now found refl)
+    search (rules, default_short t.page a.file.now t.transfer.now t.cheque.now a.out.now a.notes.now a.list.now found refl)
 
 pub file-requires : goal.file-requires
-file-requires c =
-    let a = c.args in
-    let found = c.in_ok-going.ensures.answer in
-    can_send a.terms.now.page a.file.now a.terms.now.transfer.now a.terms.now.cheque.now a.out.now a.notes.now a.list.now found refl c.in_ok-room_missing.ensures
+file-requires c = can_send _ _ _ _ _ _ _ c.in_ok-going.ensures.answer refl c.in_ok-room_missing.ensures
 
 pub returns : goal.returns
-returns c =
-    let a = c.args in
-    let found = c.in_ok-going.ensures.answer in
-    default_sent a.terms.now.page a.file.now a.terms.now.transfer.now a.terms.now.cheque.now a.out.now a.notes.now a.list.now found refl c.in_ok-room_missing.ensures c.file.ensures
+returns c = default_sent _ _ _ _ _ _ _ c.in_ok-going.ensures.answer refl c.in_ok-room_missing.ensures c.file.ensures

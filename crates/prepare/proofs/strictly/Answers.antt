@@ -13,6 +13,5 @@ send-requires c = search (rules, sound_sized)
 
 pub returns : goal.returns
 returns c =
-    let a = c.args in
     let found = c.in_ok-examine.ensures.answer in
-    prepared_sent a.terms.now.page a.file.now a.terms.now.transfer.now a.terms.now.cheque.now a.out.now a.notes.now c.is_page.ensures c.if-not-is_page.false found refl c.send.ensures.answer
+    prepared_sent _ _ _ _ _ _ c.is_page.ensures c.if-not-is_page.false found refl c.send.ensures.answer
