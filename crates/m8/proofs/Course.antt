@@ -1,7 +1,6 @@
 -- Going over the payments of a file that fits: the records of the first of them are written.
 use Rattle.std.specs.Prelude.{ℕ, ◌+◌, ◌*◌, ◌-◌, ◌≤◌, ◌<◌, ◌≡◌, List, ◌∷◌, length, Some, None, refl}
-use Rattle.std.proofs.Math.Path.{sym}
-use Rattle.std.proofs.Common.{ap, ◌∙◌, arith, length-append}
+use Rattle.std.proofs.Common.{ap, ◌∙◌, arith, length-append, sym}
 use Rattle.laws.specs.Choice.{on_eq, off_eq}
 use Rattle.laws.specs.Found.{nonzero, of_none, of_some, of_some_ne}
 use Rattle.structure.specs.Slots.{slot_at}

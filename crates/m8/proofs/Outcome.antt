@@ -1,8 +1,6 @@
 -- The promise by what the code found: a refusal, which writes nothing, or the records.
 use Rattle.std.specs.Prelude.{ℕ, ◌+◌, ◌*◌, ◌≤◌, ◌<◌, ◌≡◌, refl, length}
-use Rattle.std.proofs.Math.Path.{sym, ap}
-use Rattle.std.proofs.Common.{◌∙◌, arith}
-use mathlib.Core.List.{List, [], map}
+use Rattle.std.proofs.Common.{◌∙◌, arith, sym, ap, List, [], map}
 use Rattle.laws.specs.Choice.{on_eq, off_eq, on_lt, off_lt}
 use Rattle.laws.specs.Steps.{empty}
 use Rattle.structure.specs.Walk.{structure_of}

@@ -1,9 +1,6 @@
 -- How long the fields of a record are, all of them, and a whole record.
 use Rattle.std.specs.Prelude.{ℕ, ◌≡◌}
-use Rattle.std.proofs.Math.Path.{ap}
-use Rattle.std.proofs.Common.{◌∙◌, arith, length-append}
-use mathlib.Core.List.{List, [], ◌∷◌, ◌++◌, map}
-use Rattle.std.proofs.Math.ListN.{length}
+use Rattle.std.proofs.Common.{◌∙◌, arith, length-append, ap, List, [], ◌∷◌, ◌++◌, map, length}
 use Rattle.laws.specs.Ascii.{zeros}
 use Rattle.records.specs.declared.QField.TheVariants.{Q6, Q7}
 use Rattle.rules.specs.Q.{in_q}

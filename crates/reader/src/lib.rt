@@ -27,14 +27,13 @@ pub struct Answer {
 #[derive(Clone, Copy)]
 pub struct Reader {
     pub page: u32,
-    // 0 while cuts may come; from the first end on, another number. That and the answer, in place of an answer or none, are
-    // C's layout.
+    // 0 while cuts may come; from the first end on, another number.
     pub ended: u32,
     // The bytes so far, up to one more than a file may have.
     pub bytes: usize,
     // What the whole records have shown.
     pub tally: Tally,
-    // From the first end on, its answer.
+    // From the first end on, its answer. A number beside it, in place of an Option, is C's layout.
     pub answer: Answer,
     // The unfinished record: the first `have` of the bytes held. A length beside its bytes is C's layout.
     pub have: usize,

@@ -1,10 +1,7 @@
 -- The turn of writing digits, from the last to the first; and Z with the digits of both figures written in.
 use Rattle.std.specs.Prelude.{ℕ, zero, suc, ◌+◌, ◌-◌, ◌/◌, ◌%◌, ◌≤◌, ◌<◌, ◌≡◌, take, drop, set}
 use Prim.Native.Char.{code}
-use Rattle.std.proofs.Common.{sym, ◌∙◌, arith, drop_at, length-take-le}
-use Rattle.std.proofs.Math.Path.{ap, ap₂}
-use mathlib.Core.List.{List, [], ◌∷◌, ◌++◌, append_assoc}
-use Rattle.std.proofs.Math.ListN.{length}
+use Rattle.std.proofs.Common.{sym, ◌∙◌, arith, drop_at, length-take-le, ap, ap₂, List, [], ◌∷◌, ◌++◌, append_assoc, length}
 use Rattle.std.proofs.lemmas.List.{set_split}
 use Rattle.records.specs.Places.{z_place}
 use Rattle.records.specs.declared.Span.{Span}
@@ -59,7 +56,3 @@ module _ (z : List ℕ) (l : length z ≡ 256) (payments euros : ℕ) where
       ap₂ (λ (s : Span) (ys : List ℕ). back_as s.start s.end xs ys) u first
       ∙ ap (λ (xs : List ℕ). back_as 20 35 xs with_euros) here
       ∙ put_part 20 35 (digits 15 payments) with_euros (omega arith) (digits_length 15 payments)
-
-  pub room_left : {s : Span} {d ys : List ℕ} → d ≡ z → s ≡ z_place Z3 → ys ≡ digits (length (between s.start s.end d)) euros
-      → length (back_as s.start s.end ys d) ≡ 256
-  room_left e p q = ap length (euros_in e p q) ∙ with_long

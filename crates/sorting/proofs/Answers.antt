@@ -1,10 +1,7 @@
 -- What each return of the code answers, as the definition has it.
 use Rattle.std.specs.Prelude.{ℕ, ◌+◌, ◌-◌, ◌≤◌, ◌<◌, ◌≡◌, refl, Bool, true, false, not, cond, List, ◌⊎◌, eqb, Result, Ok, Err}
-use Rattle.std.proofs.Common.{sym, ◌∙◌, inl, inr, eqb-true}
-use Rattle.std.proofs.Math.Path.{ap}
-use native.Mathlib.Omega.{arith}
+use Rattle.std.proofs.Common.{sym, ◌∙◌, inl, inr, eqb-true, ap, arith, length}
 use Rattle.std.proofs.lemmas.Bool.{eqb-false}
-use Rattle.std.proofs.Math.ListN.{length}
 use Rattle.laws.specs.Choice.{on_eq, off_eq, on_not, off_not}
 use Rattle.laws.specs.Sums.{sum_of}
 use Rattle.charset.specs.Table.{is_page}

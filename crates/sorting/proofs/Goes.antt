@@ -1,13 +1,7 @@
 -- A file that goes on: what its answer means. Its kept file is sound, and is the file itself where nothing is returned.
-use Prim.Native.Nat.{ℕ, ◌+◌, ◌≤◌, ◌<◌}
 use Rattle.std.specs.Prelude.{◌≡◌, Bool, leb, get_or, Result, Ok, Err, IfErr}
-use Rattle.std.proofs.Math.Path.{refl, ap, subst}
-use Rattle.std.proofs.Common.{sym, ◌∙◌, inl, inr, arith}
-use Rattle.std.proofs.Math.Bool.{true, false, cond}
-use mathlib.Core.List.{List, []}
-use borrow.Author.Tests.{eqb-true, eqb-false, ne_eqb, lt-leb}
-use Rattle.std.proofs.Math.Dec.{eqb}
-use Rattle.std.proofs.Math.ListN.{length}
+use Rattle.std.proofs.Common.{sym, ◌∙◌, inl, inr, arith, ℕ, ◌+◌, ◌≤◌, ◌<◌, refl, ap, subst, true, false, cond, List, [], eqb-true, ne_eqb, eqb, length}
+use borrow.Author.Tests.{eqb-false, lt-leb}
 use Rattle.laws.specs.Sums.{sum_of}
 use Rattle.charset.specs.Table.{is_page}
 use Rattle.rules.specs.Faults.{q_fault, z_fault}

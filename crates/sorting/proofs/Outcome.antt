@@ -1,8 +1,6 @@
 -- What sorting answers, by what the code found: the judge's first broken rule, amounts, Z and the figures.
 use Rattle.std.specs.Prelude.{ℕ, ◌+◌, ◌≤◌, ◌<◌, ◌≡◌, Bool, true, false, not, List, eqb, leb, length, Some, None}
-use Rattle.std.proofs.Math.Path.{refl, ap, subst}
-use Rattle.std.proofs.Common.{sym, ◌∙◌, inl, inr, arith, eqb-true, eq-eqb, ne_eqb, lit<, lit≤}
-use Rattle.std.proofs.Math.Bool.{cond}
+use Rattle.std.proofs.Common.{sym, ◌∙◌, inl, inr, arith, eqb-true, eq-eqb, ne_eqb, lit<, lit≤, refl, ap, subst, cond}
 use Rattle.std.proofs.lemmas.Bool.{false≢true, eqb-false}
 use Rattle.laws.specs.Choice.{either}
 use Rattle.laws.specs.Found.{nonzero, none_found, some_found}

@@ -2,8 +2,8 @@
 -- the fresh Z counts and sums the kept records.
 use Rattle.std.specs.Prelude.{ℕ, ◌+◌, ◌≤◌, ◌<◌, ◌≡◌, refl, Bool, true, false, not, cond, List, [], eqb, length, get_or}
 use Prim.Native.Char.{code}
-use Rattle.std.proofs.Common.{sym, ap, ◌∙◌, inl, inr, arith}
-use borrow.Author.Tests.{eqb-true, not-false}
+use Rattle.std.proofs.Common.{sym, ap, ◌∙◌, inl, inr, arith, eqb-true}
+use borrow.Author.Tests.{not-false}
 use Rattle.laws.specs.Choice.{off_eq}
 use Rattle.laws.specs.Scan.{Means, means}
 use Rattle.laws.specs.Sums.{sum_of}

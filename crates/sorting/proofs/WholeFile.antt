@@ -1,11 +1,6 @@
 -- A file that breaks no rule: all its payments are kept, and the kept file is the file.
 use Rattle.std.specs.Prelude.{ℕ, ◌+◌, ◌-◌, ◌≤◌, ◌<◌, ◌≡◌, refl, Bool, true, false, ◌&&◌, cond, length}
-use Rattle.std.proofs.Math.Path.{sym, ap}
-use Rattle.std.proofs.Common.{ap₂, ◌∙◌, eq-eqb}
-use Rattle.std.proofs.Math.Bool.{not}
-use mathlib.Core.List.{List, []}
-use native.Mathlib.Omega.{arith}
-use Rattle.std.proofs.Math.ListN.{get_or}
+use Rattle.std.proofs.Common.{ap₂, ◌∙◌, eq-eqb, sym, ap, not, List, [], arith, get_or}
 use Rattle.laws.specs.Steps.{empty}
 use Rattle.laws.specs.Sums.{sum_of}
 use Rattle.records.specs.declared.TField.TheVariants.{T14a, T14b}

@@ -1,8 +1,9 @@
 -- A file that fits, with n T records: its records, its kept file's, and record k + 1 among them.
-use Rattle.std.specs.Prelude.{ℕ, suc, ◌+◌, ◌-◌, ◌≤◌, ◌<◌, ◌≡◌, List, [], ◌∷◌, ◌++◌, length, get_or}
-use Rattle.std.proofs.Common.{refl, sym, ap₂, subst, ◌∙◌, arith}
-use Rattle.std.proofs.Math.Path.{ap}
+use Rattle.std.specs.Prelude.{ℕ, suc, ◌+◌, ◌-◌, ◌≤◌, ◌<◌, ◌≡◌, List, [], ◌∷◌, ◌++◌, length, get_or, Option}
+use Rattle.std.proofs.Common.{refl, sym, ap₂, subst, ◌∙◌, arith, ap}
+use Rattle.laws.specs.Found.{nonzero}
 use Rattle.laws.specs.Sums.{sum_of}
+use Rattle.payments.specs.Rules.{key_of}
 use Rattle.records.specs.Places.{record_at}
 use Rattle.structure.specs.Slots.{slot_at, place_is, later_width, slot_full, q_long, t_long, z_long, place_in}
 use Rattle.structure.specs.Walk.{structure_of}
@@ -13,7 +14,7 @@ use Rattle.judge.specs.Records.{file_of, AllLong, Lengths}
 use Rattle.judge.specs.Apart.{slots_from, slots_count, made}
 use Rattle.forwarding.specs.Sized.{Sized}
 use Rattle.forwarding.specs.Turns.{turn, turns, turns_many, turn_is}
-use Rattle.sorting.specs.Kept.{fresh_z, records_by, t_records, rule_in, kept_in, kept_file}
+use Rattle.sorting.specs.Kept.{first_of, fresh_z, records_by, t_records, rule_in, kept_in, kept_file}
 use Rattle.sorting.specs.Lists.{counts_add, kept_long}
 use Rattle.sorting.specs.Fresh.{fresh_long}
 use Rattle.sorting.specs.Course.{slots_append, records_sized}
@@ -99,6 +100,11 @@ module _ (file : List ℕ) (n : ℕ) (e : structure_of file ≡ Fits n) where
     turn_slot k l =
         turn_is sized are (omega (arith, turns_count))
         ∙ slot_full file (k + 1) (turn k) 768 (omega (arith, place_is (k + 1))) (sym (later_width (k + 1) (omega arith)))
+
+    -- what is told of such a record by the key that the code found is its first broken rule
+    pub turn_told : (page : ℕ) (transfer cheque : List ℕ) (k : ℕ) → k < n → {key first : List ℕ} {o : Option ℕ} → key ≡ key_of first → first ≡ slot_at file 1
+        → o ≡ nonzero (first_of page transfer cheque key (get_or ts k [])) → o ≡ nonzero (rule_in page file transfer cheque (slot_at file (k + 1)))
+    turn_told page transfer cheque k l p q h = h ∙ ap nonzero (ap₂ (first_of page transfer cheque) (p ∙ ap key_of q) (turn_slot k l))
 
   -- the kept file's records
   module _ (page : ℕ) (transfer cheque : List ℕ) where

@@ -2,11 +2,7 @@
 -- Z4 had these values, it is the Z that was there.
 use Rattle.std.specs.Prelude.{ℕ, ◌+◌, ◌^◌, ◌≤◌, ◌<◌, ◌≡◌, refl, Bool, true, false, cond, eqb, get_or}
 use Prim.Native.Char.{code}
-use Rattle.std.proofs.Common.{sym, ◌∙◌, arith, eqb-true, eq-eqb, le-leb, length-append, drop_at, drop-drop, take-take, get_or-take}
-use Rattle.std.proofs.Math.Path.{ap, ap₂}
-use mathlib.Core.List.{List, ◌++◌, append_assoc}
-use Rattle.std.proofs.Math.ListN.{length, take, drop, length-drop, take-append-drop}
-use Rattle.std.proofs.Math.Seq.{take_at, length-take-le}
+use Rattle.std.proofs.Common.{sym, ◌∙◌, arith, eqb-true, eq-eqb, le-leb, length-append, drop_at, drop-drop, take-take, get_or-take, ap, ap₂, List, ◌++◌, append_assoc, length, take, drop, length-drop, take-append-drop, take_at, length-take-le}
 use Rattle.laws.specs.Choice.{off_eq}
 use Rattle.records.specs.Places.{part}
 use Rattle.records.specs.declared.ZField.TheVariants.{Z3, Z4, Z5}

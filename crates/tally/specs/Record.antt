@@ -20,9 +20,6 @@ breach_in page transfer cheque key payments euros slot k =
 abbrev pub or_next : Breach → Breach → Breach
 or_next b next = cond (eqb b.number 0) next b
 
-pub q_width : (k : ℕ) → k ≡ 0 → width_at k ≡ 256
-q_width k z = grind (arith, nat_tests)
-
 -- the first broken rule of a run of one record
 pub of_run : (page : ℕ) (transfer cheque key : List ℕ) (payments euros : ℕ) (slot : List ℕ) (k skip : ℕ) → skip ≡ record_at k
     → length slot ≤ width_at k

@@ -18,30 +18,30 @@ overflow_mul-count c =
 pub returns-in_default : goal.returns-in_default
 returns-in_default c =
     let a = c.args in
-    table_refused a.terms.now.page a.file.now a.terms.now.transfer.now a.terms.now.cheque.now a.codes.now a.out.now c.in_ok-count.ensures.answer refl c.in_default.ensures.cases refl
+    table_refused _ _ _ _ a.codes.now a.out.now c.in_ok-count.ensures.answer refl c.in_default.ensures.cases refl
 
 pub returns-then-out-count : goal.returns-then-out-count
 returns-then-out-count c =
     let a = c.args in
     let table = c.in-Some.ensures.cases.long in
-    room_refused a.terms.now.page a.file.now a.terms.now.transfer.now a.terms.now.cheque.now a.codes.now a.out.now c.in_ok-count.ensures.answer refl table c.if-out-count.true refl
+    room_refused _ _ _ _ a.codes.now a.out.now c.in_ok-count.ensures.answer refl table c.if-out-count.true refl
 
 pub payments-requires : goal.payments-requires
 payments-requires c =
     let a = c.args in
     let table = c.in-Some.ensures.cases.long in
     let lent = c.in-Some.ensures.cases.same in
-    payments_fit a.terms.now.page a.file.now a.terms.now.transfer.now a.terms.now.cheque.now a.codes.now a.out.now c.in_ok-count.ensures.answer refl table c.if-out-count.false lent
+    payments_fit _ _ _ _ a.codes.now a.out.now c.in_ok-count.ensures.answer refl table c.if-out-count.false lent
 
 pub returns-then-count-ne0 : goal.returns-then-count-ne0
 returns-then-count-ne0 c =
     let a = c.args in
     let table = c.in-Some.ensures.cases.long in
     let lent = c.in-Some.ensures.cases.same in
-    records_filed a.terms.now.page a.file.now a.terms.now.transfer.now a.terms.now.cheque.now a.codes.now a.out.now c.in_ok-count.ensures.answer refl table c.if-out-count.false lent c.payments.ensures
+    records_filed _ _ _ _ a.codes.now a.out.now c.in_ok-count.ensures.answer refl table c.if-out-count.false lent c.payments.ensures
 
 pub returns-else-count-ne0 : goal.returns-else-count-ne0
 returns-else-count-ne0 c =
     let a = c.args in
     let table = c.in-Some.ensures.cases.long in
-    none_filed a.terms.now.page a.file.now a.terms.now.transfer.now a.terms.now.cheque.now a.codes.now a.out.now c.in_ok-count.ensures.answer refl table c.if-out-count.false c.if-count-ne0.false
+    none_filed _ _ _ _ a.codes.now a.out.now c.in_ok-count.ensures.answer refl table c.if-out-count.false c.if-count-ne0.false

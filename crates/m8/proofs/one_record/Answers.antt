@@ -17,15 +17,17 @@ append-end-requires c =
 pub slice_bounds-reference-end : goal.slice_bounds-reference-end
 slice_bounds-reference-end c =
     let a = c.args in
-    omega (arith, (left_62 a.page a.q.now a.code.now a.t.now c.told-q c.told-t c.told-code c.requires c.heading-end.ensures c.amount-end.ensures c.append-end.ensures).0)
+    let l = left_62 a.page a.q.now a.code.now a.t.now c.told-q c.told-t c.told-code c.requires c.heading-end.ensures c.amount-end.ensures
+    c.append-end.ensures in
+    omega (arith, l.0)
 
 pub append-requires : goal.append-requires
 append-requires c =
     let a = c.args in
-    left_27 a.page a.q.now a.code.now a.t.now c.told-q c.told-t c.told-code c.requires c.heading-end.ensures c.amount-end.ensures c.append-end.ensures c.reference.ensures
+    left_27 _ _ _ _ c.told-q c.told-t c.told-code c.requires c.heading-end.ensures c.amount-end.ensures c.append-end.ensures c.reference.ensures
 
 pub returns : goal.returns
 returns c =
     let a = c.args in
-    record_written a.page a.q.now a.code.now a.t.now c.told-q c.told-t c.told-code c.requires c.heading-end.ensures c.amount-end.ensures c.append-end.ensures c.reference.ensures
+    record_written _ _ _ _ c.told-q c.told-t c.told-code c.requires c.heading-end.ensures c.amount-end.ensures c.append-end.ensures c.reference.ensures
     c.append.ensures

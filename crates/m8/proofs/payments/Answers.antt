@@ -1,10 +1,9 @@
-use Rattle.std.proofs.Common.{◌≡◌, ℕ, ◌+◌, ◌<◌, ap, ap₂, subst, sym, ◌∙◌, arith, lit<, get_or, List, []}
+use Rattle.std.proofs.Common.{◌≡◌, ℕ, ◌+◌, ◌<◌, ap₂, subst, sym, ◌∙◌, arith, lit<, get_or, List, []}
 use Rattle.laws.specs.Found.{nonzero}
-use Rattle.payments.specs.Rules.{key_of}
 use Rattle.structure.specs.Slots.{slot_at}
 use Rattle.forwarding.specs.Noted.{noted_is}
-use Rattle.sorting.specs.Kept.{first_of, rule_in}
-use Rattle.sorting.specs.Frame.{fit, sized, turns_count, turn_slot, q_there, t_there}
+use Rattle.sorting.specs.Kept.{rule_in}
+use Rattle.sorting.specs.Frame.{fit, sized, turns_count, turn_slot, turn_told, q_there, t_there}
 use Rattle.m8.specs.Record.{m8_of, code_of}
 use Rattle.m8.specs.Course.{FiledSoFar}
 use Rattle.m8.proofs.Course.{turn_passed, turn_asked, turn_filed, turns_end}
@@ -33,16 +32,17 @@ is : (c : After-first_rule) → get_or c.t_records-t-items.result.now c.loop-t.t
 is c = turn_slot c.args.file.now c.requires.0.0 c.requires.0.1 c.t_records-t-items.ensures c.loop-t.t-index (more c)
 
 told : (c : After-first_rule)
-    → c.first_rule.result ≡ nonzero (rule_in c.args.terms.now.page c.args.file.now c.args.terms.now.transfer.now c.args.terms.now.cheque.now (slot_at c.args.file.now (c.loop-t.t-index + 1)))
+    → let t = c.args.terms.now in
+    c.first_rule.result ≡ nonzero (rule_in t.page c.args.file.now t.transfer.now t.cheque.now (slot_at c.args.file.now (c.loop-t.t-index + 1)))
 told c =
-    let a = c.args in
-    c.first_rule.ensures ∙ ap nonzero (ap₂ (first_of a.terms.now.page a.terms.now.transfer.now a.terms.now.cheque.now) (c.key-key.ensures.bytes ∙ ap key_of c.whole.ensures) (is c))
+    turn_told c.args.file.now c.requires.0.0 c.requires.0.1 c.t_records-t-items.ensures _ _ _ c.loop-t.t-index (more c)
+    c.key-key.ensures.bytes c.whole.ensures c.first_rule.ensures
 
 pub payment-at-requires : goal.payment-at-requires
 payment-at-requires c =
     let a = c.args in
     let at = (goal.at.payment-at-requires c).After-first_rule in
-    turn_asked a.terms.now.page a.file.now a.terms.now.transfer.now a.terms.now.cheque.now a.codes.now c.requires.0.0 c.requires.0.1 a.out.now c.requires.1 c.loop-t.t-index c.loop-t.invariant (more at)
+    turn_asked _ _ _ _ a.codes.now c.requires.0.0 c.requires.0.1 a.out.now c.requires.1 c.loop-t.t-index c.loop-t.invariant (more at)
     (sym c.in-Some.is ∙ told at)
 
 pub loop-t-preserved : goal.loop-t-preserved
@@ -54,11 +54,12 @@ loop-t-preserved c =
     elim c.match-first_rule.branch [
       | in-Some w ↦
           subst2 filed (sym w.at-is) (sym w.out-is)
-          (turn_filed a.terms.now.page a.file.now a.terms.now.transfer.now a.terms.now.cheque.now a.codes.now c.requires.0.0 c.requires.0.1 a.out.now c.requires.1 l.t-index l.invariant (more at)
-          (sym w.in-Some.is ∙ told at) (noted_is (ap₂ (λ (q t : List ℕ). m8_of a.terms.now.page q (code_of a.codes.now w.in-Some.rule) t) c.whole-q.ensures (is at)) w.payment-at.ensures))
+          (turn_filed _ _ _ _ a.codes.now c.requires.0.0 c.requires.0.1 a.out.now c.requires.1 l.t-index l.invariant (more at)
+          (sym w.in-Some.is ∙ told at)
+          (noted_is (ap₂ (λ (q t : List ℕ). m8_of a.terms.now.page q (code_of a.codes.now w.in-Some.rule) t) c.whole-q.ensures (is at)) w.payment-at.ensures))
       | in_default w ↦
           subst2 filed (sym w.at-is) (sym w.out-is)
-          (turn_passed a.terms.now.page a.file.now a.terms.now.transfer.now a.terms.now.cheque.now a.codes.now c.requires.0.0 c.requires.0.1 a.out.now c.requires.1 l.t-index l.invariant (more at)
+          (turn_passed _ _ _ _ a.codes.now c.requires.0.0 c.requires.0.1 a.out.now c.requires.1 l.t-index l.invariant (more at)
           (sym w.in_default.is ∙ told at))
     ]
 
@@ -67,4 +68,4 @@ returns c =
     let a = c.args in
     let n = c.requires.0.0 in
     let all = turns_count a.file.now n c.requires.0.1 c.t_records-t-items.ensures in
-    turns_end a.terms.now.page a.file.now a.terms.now.transfer.now a.terms.now.cheque.now a.codes.now n c.requires.0.1 a.out.now c.requires.1 c.loop-t.t-index c.loop-t.invariant (omega (arith, all)) (omega (arith, all))
+    turns_end _ _ _ _ a.codes.now n c.requires.0.1 a.out.now c.requires.1 c.loop-t.t-index c.loop-t.invariant (omega (arith, all)) (omega (arith, all))

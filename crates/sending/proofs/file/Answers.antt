@@ -14,13 +14,13 @@ slice_bounds-q_record-end c = let a = c.args in
 pub q_record-have-requires : goal.q_record-have-requires
 q_record-have-requires c =
     let a = c.args in
-    (between_long 0 256 a.out.now (q_out a.terms.now.page a.file.now (c.args.going.payments.kept + c.args.going.payments.returned) a.terms.now.transfer.now a.terms.now.cheque.now c.requires), q_places a.terms.now.page a.file.now (c.args.going.payments.kept + c.args.going.payments.returned) a.terms.now.transfer.now a.terms.now.cheque.now c.requires c.whole-q.ensures)
+    (between_long 0 256 a.out.now (q_out _ _ _ _ _ c.requires), q_places _ _ _ _ _ c.requires c.whole-q.ensures)
 
 pub t_records-next-requires : goal.t_records-next-requires
 t_records-next-requires c =
     let a = c.args in
     let q = c.q_record-have.ensures in
-    ((_, c.requires.fits), rooms_behind a.terms.now.page a.file.now (c.args.going.payments.kept + c.args.going.payments.returned) a.terms.now.transfer.now a.terms.now.cheque.now c.requires c.whole-q.ensures q.output refl q.noted)
+    ((_, c.requires.fits), rooms_behind _ _ _ _ _ c.requires c.whole-q.ensures q.output refl q.noted)
 
 pub overflow_add-n : goal.overflow_add-n
 overflow_add-n c =
@@ -37,4 +37,4 @@ pub returns : goal.returns
 returns c =
     let a = c.args in
     let q = c.q_record-have.ensures in
-    all_sent a.terms.now.page a.file.now (c.args.going.payments.kept + c.args.going.payments.returned) a.terms.now.transfer.now a.terms.now.cheque.now c.requires c.whole-q.ensures q.output refl q.noted c.t_records-next.ensures c.whole-z.ensures c.fresh_z.ensures
+    all_sent _ _ _ _ _ c.requires c.whole-q.ensures q.output refl q.noted c.t_records-next.ensures c.whole-z.ensures c.fresh_z.ensures

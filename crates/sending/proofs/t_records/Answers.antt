@@ -1,9 +1,8 @@
-use Rattle.std.proofs.Common.{◌≡◌, ◌+◌, ◌<◌, ap, ap₂, sym, subst, ◌∙◌, arith, lit<, ℕ, List, [], get_or}
+use Rattle.std.proofs.Common.{◌≡◌, ◌+◌, ◌<◌, sym, subst, arith, lit<, ℕ, List, [], get_or}
 use Rattle.laws.specs.Found.{nonzero, or_zero}
-use Rattle.payments.specs.Rules.{key_of}
 use Rattle.structure.specs.Slots.{slot_at}
-use Rattle.sorting.specs.Kept.{first_of, rule_in}
-use Rattle.sorting.specs.Frame.{fit, sized, turns_count, turn_slot, t_there}
+use Rattle.sorting.specs.Kept.{rule_in}
+use Rattle.sorting.specs.Frame.{fit, sized, turns_count, turn_slot, turn_told, t_there}
 use Rattle.sending.specs.Turns.{RoomFor, paid_is}
 use Rattle.sending.specs.Sending.{send_first, one_room, one_sent, send_last}
 use Rattle.sending.proofs.t_records.Goals as goal
@@ -31,11 +30,11 @@ is : (c : After-first_rule-rule) → get_or c.t_records-t-items.result.now c.loo
 is c = turn_slot c.args.file.now c.requires.0.0 c.requires.0.1 c.t_records-t-items.ensures c.loop-i.i (more c)
 
 told : (c : After-first_rule-rule)
-    → c.first_rule-rule.result
-    ≡ nonzero (rule_in c.args.terms.now.page c.args.file.now c.args.terms.now.transfer.now c.args.terms.now.cheque.now (slot_at c.args.file.now (c.loop-i.i + 1)))
+    → let t = c.args.terms.now in
+    c.first_rule-rule.result ≡ nonzero (rule_in t.page c.args.file.now t.transfer.now t.cheque.now (slot_at c.args.file.now (c.loop-i.i + 1)))
 told c =
-    let t = c.args.terms.now in
-    c.first_rule-rule.ensures ∙ ap nonzero (ap₂ (first_of t.page t.transfer.now t.cheque.now) (c.key-key.ensures.bytes ∙ ap key_of c.whole.ensures) (is c))
+    turn_told c.args.file.now c.requires.0.0 c.requires.0.1 c.t_records-t-items.ensures _ _ _ c.loop-i.i (more c)
+    c.key-key.ensures.bytes c.whole.ensures c.first_rule-rule.ensures
 
 pub payment-next-requires : goal.payment-next-requires
 payment-next-requires c =
@@ -43,7 +42,7 @@ payment-next-requires c =
     let t = a.terms.now in
     let l = c.loop-i in
     let at = (goal.at.payment-next-requires c).After-first_rule-rule in
-    let room = one_room t.page a.file.now t.transfer.now t.cheque.now c.requires.0.0 c.requires.0.1 a.have a.out.now a.notes.now a.list.now c.requires.1 l.i (more at) l.invariant _ (told at) in
+    let room = one_room _ _ _ _ _ c.requires.0.1 _ _ _ _ c.requires.1 l.i (more at) l.invariant _ (told at) in
     (room.0, subst (λ (t : List ℕ). RoomFor t (l.i + 1) (or_zero c.first_rule-rule.result) l.next l.out l.notes l.list) (sym (is at)) room.1)
 
 pub loop-i-preserved : goal.loop-i-preserved
@@ -52,7 +51,7 @@ loop-i-preserved c =
     let t = a.terms.now in
     let l = c.loop-i in
     let at = (goal.at.loop-i-preserved c).After-first_rule-rule in
-    one_sent t.page a.file.now t.transfer.now t.cheque.now c.requires.0.0 c.requires.0.1 a.have a.out.now a.notes.now a.list.now c.requires.1 l.i (more at) l.invariant _ (told at)
+    one_sent _ _ _ _ _ c.requires.0.1 _ _ _ _ c.requires.1 l.i (more at) l.invariant _ (told at)
     (paid_is (is at) c.payment-next.ensures)
 
 pub returns : goal.returns

@@ -19,7 +19,7 @@ returns-in_err-z_rules c =
     let a = c.args in
     let r = c.from_residual-in_err-z_rules in
     let p = err_from_is_err_and r.result r.ensures.1 in
-    rw (p.1, p.2) (told_z a.terms.now.page a.file.now a.terms.now.transfer.now a.terms.now.cheque.now a.n c.requires.0 c.in_ok-amounts.ensures c.in_err-z_rules.ensures)
+    rw (p.1, p.2) (told_z _ _ _ _ a.n c.requires.0 c.in_ok-amounts.ensures c.in_err-z_rules.ensures)
 
 pub going_on-requires : goal.going_on-requires
 going_on-requires c =

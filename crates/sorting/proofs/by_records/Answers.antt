@@ -22,7 +22,7 @@ file-requires c =
 pub returns-in-Ok : goal.returns-in-Ok
 returns-in-Ok c =
     let a = c.args in
-    told_whole a.terms.now.page a.file.now a.terms.now.transfer.now a.terms.now.cheque.now a.n c.requires c.sum-euros.ensures.0 refl (was_whole _ c.in-Ok.ensures) (c.file.ensures a.terms.now.page) c.whole.ensures
+    told_whole _ _ _ _ a.n c.requires c.sum-euros.ensures.0 refl (was_whole _ c.in-Ok.ensures) (c.file.ensures a.terms.now.page) c.whole.ensures
 
 pub returns-in-Err : goal.returns-in-Err
 returns-in-Err c =
@@ -34,4 +34,4 @@ pub returns-in-Err-2 : goal.returns-in-Err-2
 returns-in-Err-2 c =
     let a = c.args in
     let b = was_broken c.in-Err.ensures in
-    told_later a.terms.now.page a.file.now a.terms.now.transfer.now a.terms.now.cheque.now a.n c.requires c.sum-euros.ensures.0 b.0 c.if-broken-lt20.false c.behind_q.ensures
+    told_later _ _ _ _ a.n c.requires c.sum-euros.ensures.0 b.0 c.if-broken-lt20.false c.behind_q.ensures

@@ -1,11 +1,10 @@
-use Rattle.std.proofs.Common.{ap, ap₂, subst, ◌∙◌, sym, arith, lit<, ◌≡◌, ◌+◌, ◌<◌, ℕ, not, get_or, []}
+use Rattle.std.proofs.Common.{ap, subst, ◌∙◌, sym, arith, lit<, ◌≡◌, ◌+◌, ◌<◌, ℕ, not, get_or, []}
 use Rattle.forwarding.specs.Text.{q_texts}
 use Rattle.forwarding.specs.Fields.{field_changes}
 use Rattle.laws.specs.Found.{nonzero}
-use Rattle.payments.specs.Rules.{key_of}
 use Rattle.structure.specs.Slots.{slot_at}
-use Rattle.sorting.specs.Kept.{first_of, rule_in}
-use Rattle.sorting.specs.Frame.{fit, sized, turns_count, turn_slot, q_there, t_there}
+use Rattle.sorting.specs.Kept.{rule_in}
+use Rattle.sorting.specs.Frame.{fit, sized, turns_count, turn_slot, turn_told, q_there, t_there}
 use Rattle.sorting.specs.Counting.{with_one, CountedIn, counted_q, counted_small, counted_kept, counted_returned, counted_all}
 use Rattle.sorting.proofs.count_kept.Goals as goal
 use Rattle.sorting.proofs.count_kept.Goals.{then-is_none, else-is_none}
@@ -22,7 +21,7 @@ t_records-t-items-requires c = sized c.args.file.now c.requires.0 c.requires.1
 pub loop-t-init : goal.loop-t-init
 loop-t-init c =
     let a = c.args in
-    counted_q a.terms.now.page a.file.now a.terms.now.transfer.now a.terms.now.cheque.now c.requires.0 c.requires.1 (c.q_record.ensures ∙ ap (field_changes q_texts) c.whole-2.ensures)
+    counted_q _ _ _ _ c.requires.0 c.requires.1 (c.q_record.ensures ∙ ap (field_changes q_texts) c.whole-2.ensures)
 
 pub with_one-sum-requires : goal.with_one-sum-requires
 with_one-sum-requires c =
@@ -38,10 +37,11 @@ is : (c : goal.Joined-is_none) → get_or c.t_records-t-items.result.now c.loop-
 is c = turn_slot c.args.file.now c.requires.0 c.requires.1 c.t_records-t-items.ensures c.loop-t.t-index (more c)
 
 told : (c : goal.Joined-is_none)
-    → c.first_rule.result ≡ nonzero (rule_in c.args.terms.now.page c.args.file.now c.args.terms.now.transfer.now c.args.terms.now.cheque.now (slot_at c.args.file.now (c.loop-t.t-index + 1)))
+    → let t = c.args.terms.now in
+    c.first_rule.result ≡ nonzero (rule_in t.page c.args.file.now t.transfer.now t.cheque.now (slot_at c.args.file.now (c.loop-t.t-index + 1)))
 told c =
-    let a = c.args in
-    c.first_rule.ensures ∙ ap nonzero (ap₂ (first_of a.terms.now.page a.terms.now.transfer.now a.terms.now.cheque.now) (c.key-key.ensures.bytes ∙ ap key_of c.whole.ensures) (is c))
+    turn_told c.args.file.now c.requires.0 c.requires.1 c.t_records-t-items.ensures _ _ _ c.loop-t.t-index (more c)
+    c.key-key.ensures.bytes c.whole.ensures c.first_rule.ensures
 
 pub loop-t-preserved : goal.loop-t-preserved
 loop-t-preserved c =
@@ -51,10 +51,10 @@ loop-t-preserved c =
     elim c.if-is_none.branch [
       | then-is_none w ↦
           subst counted (sym (w.sum-is ∙ w.with_one-sum.ensures ∙ ap (with_one l.sum 0) (is c)))
-          (counted_kept a.terms.now.page a.file.now a.terms.now.transfer.now a.terms.now.cheque.now c.requires.0 c.requires.1 l.t-index (more c) l.invariant _ (told c) (c.is_none.ensures ∙ ap not w.if-is_none.true))
+          (counted_kept _ _ _ _ c.requires.0 c.requires.1 l.t-index (more c) l.invariant _ (told c) (c.is_none.ensures ∙ ap not w.if-is_none.true))
       | else-is_none w ↦
           subst counted (sym w.sum-is)
-          (counted_returned a.terms.now.page a.file.now a.terms.now.transfer.now a.terms.now.cheque.now c.requires.0 c.requires.1 l.t-index (more c) l.invariant _ (told c) (c.is_none.ensures ∙ ap not w.if-is_none.false))
+          (counted_returned _ _ _ _ c.requires.0 c.requires.1 l.t-index (more c) l.invariant _ (told c) (c.is_none.ensures ∙ ap not w.if-is_none.false))
     ]
 
 pub returns : goal.returns

@@ -14,12 +14,12 @@ pub returns-in_err-n-clause-answer : goal.returns-in_err-n-clause-answer
 returns-in_err-n-clause-answer c =
     let a = c.args in
     let p = err_from_is_err_and c.from_residual.result c.from_residual.ensures.1 in
-    rw (p.1, p.2) (told_shape a.terms.now.page a.file.now a.terms.now.transfer.now a.terms.now.cheque.now c.is_page.ensures (Refused _ _) (ap not c.if-not-is_page.false) (sym c.in_err-n.ensures) refl)
+    rw (p.1, p.2) (told_shape _ _ _ _ c.is_page.ensures (Refused _ _) (ap not c.if-not-is_page.false) (sym c.in_err-n.ensures) refl)
 
 pub returns-clause-answer : goal.returns-clause-answer
 returns-clause-answer c =
     let a = c.args in
-    told_shape a.terms.now.page a.file.now a.terms.now.transfer.now a.terms.now.cheque.now c.is_page.ensures (Fits _) (ap not c.if-not-is_page.false) (sym c.in_ok-n.ensures) c.by_records.ensures
+    told_shape _ _ _ _ c.is_page.ensures (Fits _) (ap not c.if-not-is_page.false) (sym c.in_ok-n.ensures) c.by_records.ensures
 
 pub returns-clause-real : goal.returns-clause-real
-returns-clause-real c = answer_real c.args.terms.now.page c.args.file.now c.args.terms.now.transfer.now c.args.terms.now.cheque.now c.by_records.result (returns-clause-answer c)
+returns-clause-real c = answer_real _ _ _ _ c.by_records.result (returns-clause-answer c)

@@ -22,9 +22,9 @@ run-requires c =
 pub returns-in-Some : goal.returns-in-Some
 returns-in-Some c =
     let a = c.args in
-    failed _ (c.in-Some.ensures ∙ ap broken (z_same a.terms.now.page a.file.now a.terms.now.transfer.now a.terms.now.cheque.now a.n c.requires.0 (c.key-key.ensures.bytes ∙ ap key_of c.whole.ensures) c.requires.1))
+    failed _ (c.in-Some.ensures ∙ ap broken (z_same _ _ _ _ a.n c.requires.0 (c.key-key.ensures.bytes ∙ ap key_of c.whole.ensures) c.requires.1))
 
 pub returns-in-None : goal.returns-in-None
 returns-in-None c =
     let a = c.args in
-    passed _ (c.in-None.ensures ∙ ap broken (z_same a.terms.now.page a.file.now a.terms.now.transfer.now a.terms.now.cheque.now a.n c.requires.0 (c.key-key.ensures.bytes ∙ ap key_of c.whole.ensures) c.requires.1))
+    passed _ (c.in-None.ensures ∙ ap broken (z_same _ _ _ _ a.n c.requires.0 (c.key-key.ensures.bytes ∙ ap key_of c.whole.ensures) c.requires.1))

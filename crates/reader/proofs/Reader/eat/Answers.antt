@@ -1,6 +1,5 @@
-use Rattle.std.proofs.Common.{List, ap, ◌++◌, [], ◌∙◌, ℕ, arith, rules}
-use Rattle.tally.specs.Settle.{settle_of, steady_settle}
-use Rattle.reader.specs.State.{mid, eat, packed, pending}
+use Rattle.std.proofs.Common.{arith, rules}
+use Rattle.tally.specs.Settle.{steady_settle}
 use Rattle.reader.specs.Eats.{width_le, eats_stopped, eats_held, eats_full}
 use Rattle.reader.proofs.Reader.eat.Goals as goal
 
@@ -22,5 +21,5 @@ returns c =
     let r = a.self in
     let cut = c.in-Some.ensures.cases in
     eats_full _ _ _ r (search rules) (omega (arith, width_le r.tally.next)) _ c.if-self-ne0.false (omega arith) cut.0 (omega arith)
-    (c.across-first.ensures ∙ ap (λ (xs : List ℕ). settle_of a.terms.now.page a.terms.now.transfer.now a.terms.now.cheque.now r.tally (pending r ++ xs)) cut.1)
-    (c.rest.ensures ∙ ap (λ (xs : List ℕ). packed r (eat a.terms.now.page a.terms.now.transfer.now a.terms.now.cheque.now (mid c.across-first.result []) xs)) cut.2)
+    (rw cut.1 at c.across-first.ensures)
+    (rw cut.2 at c.rest.ensures)
