@@ -35,7 +35,8 @@ fn german<const A: u8, const O: u8, const U: u8, const S: u8>(b: u8) -> u8
     }
 }
 
-// What a character becomes. Page 0 is DIN 66003, every other ISO 8859-1; no answer depends on any number but 0 and 1.
+// What a character becomes. Page 0 is DIN 66003, every other ISO 8859-1; no answer depends on any number but 0 and 1. It stands
+// in the loop that uses it: only so that is compiled to sixteen bytes a step.
 #[inline(always)]
 #[tactic(auto, unfolding(crate::specs::Table::rep))]
 fn straight(page: u32, b: u8) -> u8
@@ -54,7 +55,7 @@ fn straight(page: u32, b: u8) -> u8
     }
 }
 
-// The same as a call, for one character.
+// The same as a call, for one character: a reader of many that mostly does without gets slower where all this stands in it.
 pub fn replaced(page: u32, b: u8) -> u8
     ensures { result ≡ rep page b }
 {

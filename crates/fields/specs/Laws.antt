@@ -135,14 +135,6 @@ same_is [] (y ∷ t) e = absurd (false≢true e)
 same_is (x ∷ s) [] e = absurd (false≢true e)
 same_is (x ∷ s) (y ∷ t) e = let w = both (eqb x y) (same s t) e in ap₂ ◌∷◌ (eqb-true x y w.0) (same_is s t w.1)
 
--- two bytes, one by one
-pub same_two : (s : List ℕ) → length s ≡ 2 → (a b : ℕ) → eqb (get_or s 0 0) a && eqb (get_or s 1 0) b ≡ same s (a ∷ b ∷ [])
-unfolding same
-same_two [] h a b = absurd (omega arith)
-same_two (x ∷ []) h a b = absurd (omega arith)
-same_two (x ∷ (y ∷ [])) h a b = ap (λ (t : Bool). eqb x a && t) (sym (and-true (eqb y b)))
-same_two (x ∷ (y ∷ (z ∷ s))) h a b = absurd (omega arith)
-
 pub digit_lt : (b : ℕ) → digit_of b < 10
 digit_lt b = go (leb 48 b) (leb b 57) refl
   where

@@ -153,7 +153,8 @@ pub fn is_date(s: &[u8]) -> bool
     all(Class::Digit, s) & (1 <= month) & (month <= 12) & (1 <= day) & (day <= days(year, month))
 }
 
-// The bytes of T8 have the shape of a BIC as they stand.
+// The bytes of T8 have the shape of a BIC as they stand. The shape is written out twice: over a closure that tests a part, its
+// contract would be longer than both.
 fn bic_as_it_stands(t8: &[u8]) -> bool
     requires { length t8.now ≡ 11 }
     ensures { result ≡ shape_of t8.now }

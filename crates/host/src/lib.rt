@@ -22,8 +22,7 @@ use sorting::Sorted;
 pub fn desk_judge(file: &[u8], transfer: &[u8], cheque: &[u8]) -> usize
     ensures { CodedAs file.now transfer.now cheque.now result }
 {
-    let none = [0u64; 1];
-    let found = judge::judge(0, file, transfer, cheque, &none[..0]);
+    let found = judge::judge(0, file, transfer, cheque, &[]);
     found.rec * 100 + found.number
 }
 
@@ -122,11 +121,15 @@ pub struct Part {
 pub fn desk_show(file: &[u8], rec: usize, field: usize) -> Part
     ensures { PlacedAs file.now rec field result }
 {
-    let s = show::place(file, rec, field);
-    let start = s.start;
-    Part {
-        start,
-        length: s.end - start,
+    match show::place(file, rec, field) {
+        Some(s) => Part {
+            start: s.start,
+            length: s.end - s.start,
+        },
+        None => Part {
+            start: 0,
+            length: 0,
+        },
     }
 }
 

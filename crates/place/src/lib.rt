@@ -47,7 +47,8 @@ fn field(
     n
 }
 
-// A record into its part of the output, and its notes.
+// A record into its part of the output, and its notes. The part stays a slice, here and below: as an array it would take an
+// `as_mut_array().unwrap()` at each place that cuts it from the output, to save its length in three clauses.
 pub fn q_record(page: u32, rec: &[u8; 256], part: &mut [u8], notes: &mut [u32]) -> usize
     requires { (length part.old ≡ 256) × (length (field_notes q_texts 0 rec.now) ≤ length notes.old) }
     ensures output { part.new ≡ fwd (rep page) (lies q_texts) 0 rec.now }

@@ -2,7 +2,7 @@
 // takes a sound file whole; the default way sends the payments that break no rule, and names the others.
 #![tactic(auto)]
 
-ghost use Rattle.std.specs.Prelude.{◌≡◌, ◌+◌, ◌-◌, ◌/◌, ◌≤◌, ◌<◌, length, Ok, IfErr, MatchResult};
+ghost use Rattle.std.specs.Prelude.{◌≡◌, ◌-◌, ◌/◌, ◌≤◌, ◌<◌, length, Ok, IfErr, MatchResult};
 ghost use Rattle.forwarding.specs.Forwarded.{forwarded, notes_of};
 ghost use Rattle.forwarding.specs.Put.{put};
 ghost use Rattle.forwarding.specs.Most.{text_length};
@@ -10,7 +10,6 @@ ghost use Rattle.forwarding.specs.Noted.{Noted};
 ghost use Rattle.forwarding.specs.Sized.{Sized};
 ghost use Rattle.judge.specs.Refusal.{number_of};
 ghost use Rattle.sorting.specs.Answer.{sorted_of};
-ghost use Rattle.sending.specs.Whole.{CanSend, FileSent};
 ghost use Rattle.prepare.specs.Answer.{prepared_in, Short};
 ghost use Rattle.prepare.specs.Prepared.{SentAs, PreparedAs};
 ghost use Rattle.prepare.specs.Default.{DefaultAs};

@@ -33,18 +33,19 @@ pub struct Report {
     pub changes: usize,
 }
 
-fn lines(answer: Answer) -> Report
-    ensures { result ≡ lines answer }
-{
-    let found = answer.verdict;
-    Report {
-        verdict: found.number,
-        rec: found.rec,
-        at: found.at,
-        payments: found.payments,
-        euros: found.euros,
-        cents: found.cents,
-        changes: answer.changes,
+impl From<Answer> for Report {
+    ghost from_gives = { λ answer report. report ≡ lines answer };
+
+    fn from(answer: Answer) -> Self {
+        Self {
+            verdict: answer.verdict.number,
+            rec: answer.verdict.rec,
+            at: answer.verdict.at,
+            payments: answer.verdict.payments,
+            euros: answer.verdict.euros,
+            cents: answer.verdict.cents,
+            changes: answer.changes,
+        }
     }
 }
 
@@ -59,17 +60,13 @@ pub fn start() -> Reader
 pub fn read_on(reader: Reader, piece: &[u8]) -> Reader
     ensures { ReadOnAs reader piece.now result }
 {
-    let transfer = ANNEX_II;
-    let cheque = ANNEX_I;
-    reader.feed(piece, &transfer, &cheque)
+    reader.feed(piece, &ANNEX_II, &ANNEX_I)
 }
 
 // What is told where the input ends. No number is taken.
+#[tactic(auto, unfolding(crate::specs::Report::said_of))]
 pub fn tell(reader: Reader) -> Report
     ensures { SaidAs reader result }
 {
-    let none = [0u64; 1];
-    let read = reader.end(&none[..0]);
-    let answer = read.answer;
-    lines(answer)
+    Report::from(reader.end(&[]).answer)
 }

@@ -29,6 +29,7 @@ loop-entry-preserved c =
     let es = c.filled-entry-items.result.now in
     let e = get_or es l.entry-index (entry_of 0 0 0 0) in
     let long : length c.args.self.now.places ≡ 200 = search (rules, unmapped) in
+    let below = few c.args.self.now es l.entry-index long c.filled-entry-items.ensures c.loop-entry-test.true in
     let kept : c.if-not-is_forgotten.kept ≡ unless_forgotten day l.kept e =
     elim c.if-not-is_forgotten.branch [
       | then-not-is_forgotten w ↦ off_call _ c.is_forgotten.ensures w.if-not-is_forgotten.true (w.kept-is ∙ w.put.ensures)
@@ -36,4 +37,4 @@ loop-entry-preserved c =
     ] in
     kept
     ∙ ap (λ (b : Book). unless_forgotten day b e) l.invariant
-    ∙ keeps_next es l.entry-index (entry_of 0 0 0 0) c.loop-entry-test.true day (few c.args.self.now es l.entry-index long c.filled-entry-items.ensures c.loop-entry-test.true)
+    ∙ keeps_next es l.entry-index (entry_of 0 0 0 0) c.loop-entry-test.true day below
