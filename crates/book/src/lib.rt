@@ -23,6 +23,7 @@ pub struct Entry {
     pub euros: u64,
 }
 
+// A count beside its places, in place of a Vec, is C's layout, and a book takes no memory but its own.
 #[repr(C)]
 #[derive(Clone, Copy)]
 pub struct Book {
@@ -36,7 +37,7 @@ pub struct Book {
     pub places: [Entry; PLACES],
 }
 
-// What a take answers, 0 or the number of a refusal, and the book after it.
+// What a take answers, 0 or the number of a refusal, and the book after it. The number in place of a Refusal is C's layout.
 #[repr(C)]
 #[derive(Drop)]
 pub struct Taken {

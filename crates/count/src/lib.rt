@@ -44,6 +44,7 @@ pub fn q_record(rec: &[u8; 256]) -> usize
     field(records::bytes(rec, QField::Q5))
 }
 
+// By the numbers of the fields, as the laws go: a list of fields would be no plainer.
 pub fn t_record(rec: &[u8; 768]) -> usize
     ensures { result ≡ field_changes t_texts rec.now }
 {

@@ -1,7 +1,7 @@
 // The desk: reads a file of any length on standard input and prints what it finds of it, in seven lines.
 #![tactic(auto)]
 
-ghost use Rattle.std.specs.Prelude.{◌≡◌, ◌-◌, take};
+ghost use Rattle.std.specs.Prelude.{take};
 ghost use Rattle.report.specs.Report.{ReadOnAs};
 ghost use Rattle.desk.specs.Input.{Reads};
 
@@ -40,39 +40,24 @@ fn read_piece(input: &mut impl Read, reader: Reader, room: &mut [u8]) -> Piece
     }
 }
 
-// How many bytes may still come before the file is too long.
-fn less(left: usize, count: usize) -> usize
-    ensures { result ≡ left - count }
-{
-    if left < count {
-        return 0;
-    }
-    left - count
-}
-
 // Reads until the input ends, a read fails, or one byte more has come than a file may have, after which no byte changes
 // the answer.
 fn read_input(input: &mut impl Read, room: &mut [u8]) -> Input
     ensures { Reads result.reader }
 {
     let mut reader = report::start();
-    let mut left = 7679745;
+    // how many bytes may still come before the file is too long
+    let mut left: usize = 7679745;
     while 0 < left {
         let piece = read_piece(input, reader, room);
-        let next = piece.reader;
-        reader = next;
-        let count = piece.count;
-        let error = piece.error;
-        if error.is_some() {
-            return Input { reader, error };
-        }
-        if count == 0 {
+        reader = piece.reader;
+        if piece.error.is_some() || piece.count == 0 {
             return Input {
                 reader,
-                error: None,
+                error: piece.error,
             };
         }
-        left = less(left, count);
+        left = left.saturating_sub(piece.count);
     }
     Input {
         reader,

@@ -110,7 +110,7 @@ pub fn desk_restore(
     restore::restore(page, forwarded, notes, transfer, cheque, out)
 }
 
-// Where a shown field stands in the file. Length 0: no such field.
+// Where a shown field stands in the file. Length 0, which in place of an Option is C's layout: no such field.
 #[repr(C)]
 #[derive(Drop)]
 pub struct Part {

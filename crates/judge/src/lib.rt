@@ -17,7 +17,8 @@ use records::{QField, TField};
 use std::ops::Range;
 use structure::Misfit;
 
-// The first broken rule, its record, and the place there of the field that breaks it; zeros where none is broken.
+// The first broken rule, its record, and the place there of the field that breaks it; zeros where none is broken. It is part of a
+// reader, so its layout is C's.
 #[repr(C)]
 #[derive(Clone, Copy, PartialEq, Eq)]
 pub struct Breach {
@@ -28,6 +29,7 @@ pub struct Breach {
 
 // The judge's answer. Number 0: sound, with the payments and both sums. Else the broken rule, its record, the place there
 // of the field that breaks it (0 for rules 1 to 5, for 7 and for 50, which no field breaks), and zeros.
+// A number in place of a Refusal is C's layout.
 #[repr(C)]
 #[derive(Clone, Copy)]
 pub struct Verdict {
@@ -225,6 +227,7 @@ pub fn run(
     let mut found = None;
     'records: for k in from..to {
         let slot = slot_in(bytes, skip, k);
+        // by its ends: over the range itself the loop would carry what it has yielded in place of a number
         let rules = rules_of(payments, k);
         for rule in rules.start..rules.end {
             if let Some(at) = fault(terms, key, payments, euros, slot, k, rule) {
@@ -268,7 +271,7 @@ pub fn cents_of(rec: &[u8; 768]) -> u64
     fields::value(&t14b[0..2])
 }
 
-// The sums over the T records. Cents are never carried.
+// The sums over the T records, by their numbers, of which euro_sum and cent_sum speak. Cents are never carried.
 #[tactic(auto, using(crate::specs::Sums::summing), unfolding(crate::specs::Sums::euro_sum, crate::specs::Sums::cent_sum))]
 pub fn sum(file: &[u8], n: usize) -> Totals
     requires { (length file.now ≡ 512 + 768 * n) × (n ≤ 9999) }

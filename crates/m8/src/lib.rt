@@ -27,7 +27,8 @@ const FIRST: usize = 20;
 
 const LINE: usize = 35;
 
-// How many records there are; or the number of a refusal, its record, and 0.
+// How many records there are; or the number of a refusal, its record, and 0. A number in place of a Refusal is C's
+// layout.
 #[repr(C)]
 #[derive(Clone, Copy, PartialEq, Eq)]
 pub struct Filed {
@@ -55,7 +56,8 @@ impl From<Result<usize, Refusal>> for Filed {
     }
 }
 
-// Bytes behind those that are written; where the next ones go.
+// Bytes behind those that are written; where the next ones go. Room and place stay two, as `Noted` speaks of them; the room is
+// lent by C, and nothing is built in between.
 fn append(piece: &[u8], out: &mut [u8], at: usize) -> usize
     requires { Left (length piece.now) at out.old }
     ensures { Noted piece.now at out.old out.new result }

@@ -19,7 +19,8 @@ use judge::Refusal;
 use payments::Terms;
 use sorting::{Going, Sorted};
 
-// Number 0, record 0 and how many notes there are; or the number of a refusal, its record, and 0.
+// Number 0, record 0 and how many notes there are; or the number of a refusal, its record, and 0. A number in
+// place of a Refusal is C's layout.
 #[repr(C)]
 #[derive(Drop)]
 pub struct Prepared {

@@ -120,7 +120,8 @@ impl Q {
 
     pub const LENGTH: usize = 256;
 
-    // The place of text field k; an empty place where a Q record has none of that number.
+    // The place of text field k; an empty place where a Q record has none of that number, as q_text has it, on which the laws of
+    // texts rest.
     pub fn text(k: usize) -> Span
         ensures { result ≡ q_text k }
     {
@@ -217,7 +218,7 @@ impl T {
 
     pub const LENGTH: usize = 768;
 
-    // The place of text field k; an empty place where a T record has none of that number.
+    // The place of text field k; an empty place where a T record has none of that number, as t_text has it.
     pub fn text(k: usize) -> Span
         ensures { result ≡ t_text k }
     {

@@ -13,7 +13,7 @@ use judge::Refusal;
 use payments::Terms;
 use records::{Q, Span, T, Z};
 
-// Number 0: restored. Else 7, 60 or 70. The record is always 0.
+// Number 0: restored. Else 7, 60 or 70. The record is always 0. A number in place of a Refusal is C's layout.
 #[repr(C)]
 #[derive(Drop)]
 pub struct Restored {

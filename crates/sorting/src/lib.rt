@@ -29,7 +29,7 @@ pub struct Shares {
 }
 
 // Number 0, record 0, how many notes there are of what goes on, and the payments and whole euros; or the number of a
-// refusal, its record, and zeros.
+// refusal, its record, and zeros. A number in place of a Refusal is C's layout.
 #[repr(C)]
 #[derive(Clone, Copy, PartialEq, Eq)]
 pub struct Sorted {
