@@ -4,9 +4,6 @@ use Rattle.desk.proofs.read_input.Goals as goal
 pub returns-then-is_some : goal.returns-then-is_some
 returns-then-is_some g c = one_more _ _ _ c.loop-left.invariant c.read_piece-piece.ensures
 
-pub returns-then-count-eq0 : goal.returns-then-count-eq0
-returns-then-count-eq0 g c = one_more _ _ _ c.loop-left.invariant c.read_piece-piece.ensures
-
 pub loop-left-preserved : goal.loop-left-preserved
 loop-left-preserved g c = one_more _ _ _ c.loop-left.invariant c.read_piece-piece.ensures
 
