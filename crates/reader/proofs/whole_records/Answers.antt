@@ -12,6 +12,8 @@ loop-width-preserved c =
     let w = of_some c.in-Some.ensures in
     let h = ready_go l.tally.stop l.tally.next (length cut - l.at) c.in-Some.width w (λ z. of_some_ne c.in-Some.ensures (sym w ∙ z)) in
     let low = ready_le l.tally.stop l.tally.next (length cut - l.at) c.in-Some.width w in
-    rw c.settle-tally.ensures
-    (omega (arith, low, l.invariant.0), steady_settle _ _ _ _ _ l.invariant.1,
-    l.invariant.2 ∙ turn t.page t.transfer.now t.cheque.now l.tally cut l.at c.in-Some.width h.0 h.1 (omega (arith, low, l.invariant.0)))
+    rw c.settle-tally.ensures (
+      omega (arith, low, l.invariant.0),
+      steady_settle _ _ _ _ _ l.invariant.1,
+      l.invariant.2 ∙ turn t.page t.transfer.now t.cheque.now l.tally cut l.at c.in-Some.width h.0 h.1 (omega (arith, low, l.invariant.0)),
+    )
