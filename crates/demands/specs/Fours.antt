@@ -1,5 +1,6 @@
--- Document 02, A4: the search compares four countries in one turn, each pair of bytes as one number. What that rests on, said
--- of the definitions alone: a list's countries come in fours, whatever its length, and pairs that differ have different numbers.
+-- Document 02, A4: the search compares four countries in one turn, each pair of bytes as one number. Why that may be, said of
+-- the definitions alone: a list's countries come in fours, whatever its length, and two pairs are the same exactly where their
+-- numbers are. The search itself goes over chunks of the list, by fields/Laws `in_fours`.
 use Rattle.std.specs.Prelude.{ℕ, suc, ◌+◌, ◌*◌, ◌<◌, ◌≡◌, refl, Bool, true, false, ◌&&◌, List, [], ◌∷◌, ◌++◌, eqb, take, drop}
 use Rattle.std.proofs.Common.{ap, arith, eqb-true, eq-eqb, ne_eqb, drop-drop}
 use Rattle.std.proofs.lemmas.Bool.{eqb-false}
