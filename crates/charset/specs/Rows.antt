@@ -1,10 +1,37 @@
--- / is what only / becomes, on both pages: no row of the table yields it.
+-- What a character becomes, by the tests of the table in its own order: unchanged, &, $, and then the page. `r` is what
+-- `unchanged` answered of it.
 use Rattle.std.specs.Prelude.{ℕ, zero, suc, ◌≡◌, Bool, true, false, ◌||◌, cond, List, [], ◌∷◌, eqb, refl}
 use Prim.Native.Char.{code}
 use Rattle.std.proofs.Common.{sym, ap, ◌∙◌, ne_eqb}
 use Rattle.std.proofs.lemmas.Bool.{false≢true}
-use Rattle.laws.specs.Choice.{neither, either}
-use Rattle.charset.specs.Table.{unchanged, exceptions, look, rep}
+use Rattle.laws.specs.Choice.{on_call, off_call, on_eq, off_eq, neither, either}
+use Rattle.charset.specs.Table.{unchanged, exceptions, german, look, rep, other_page}
+
+module _ (page b : ℕ) {r : Bool} (e : r ≡ unchanged b) where
+  pub stays : r ≡ true → b ≡ rep page b
+  unfolding rep
+  stays kept = on_call _ e kept refl
+
+  module _ (other : r ≡ false) where
+    pub ampersand : b ≡ code "&" → code "+" ≡ rep page b
+    unfolding rep
+    ampersand is = off_call _ e other (on_eq _ is refl)
+
+    module _ (no-ampersand : b ≡ code "&" → ⊥) where
+      pub dollar : b ≡ code "$" → code "S" ≡ rep page b
+      unfolding rep
+      dollar is = off_call _ e other (off_eq _ no-ampersand (on_eq _ is refl))
+
+      module _ (no-dollar : b ≡ code "$" → ⊥) {z : ℕ} where
+        by_page : z ≡ look (german page) b → z ≡ rep page b
+        unfolding rep
+        by_page row = off_call _ e other (off_eq _ no-ampersand (off_eq _ no-dollar row))
+
+        pub page_0 : page ≡ 0 → z ≡ look (german 0) b → z ≡ rep page b
+        page_0 is row = by_page (row ∙ ap (λ (p : ℕ). look (german p) b) (sym is))
+
+        pub page_1 : (page ≡ 0 → ⊥) → z ≡ look (german 1) b → z ≡ rep page b
+        page_1 is row = by_page (row ∙ sym (other_page page b is))
 
 -- what no row yields, only that character itself becomes: / is one, on both pages
 abbrev yields : ℕ → List (ℕ × ℕ) → Bool

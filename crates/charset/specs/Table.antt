@@ -90,3 +90,8 @@ changes_are page b = go (unchanged b) refl
     go : (kept : Bool) → unchanged b ≡ kept → eqb (rep page b) b ≡ kept
     go true e = eq-eqb (rep page b) b (unchanged_rep page b e)
     go false e = ne_eqb (rep page b) b (λ q. false≢true (sym e ∙ ap unchanged (sym q) ∙ rep_unchanged page b))
+
+-- every page but 0 is page 1
+pub other_page : (page b : ℕ) → (page ≡ 0 → ⊥) → look (german page) b ≡ look (german 1) b
+other_page zero b h = absurd (h refl)
+other_page (suc _) b h = refl

@@ -36,9 +36,9 @@ fn german<const A: u8, const O: u8, const U: u8, const S: u8>(b: u8) -> u8
 }
 
 // What a character becomes. Page 0 is DIN 66003, every other ISO 8859-1; no answer depends on any number but 0 and 1. It stands
-// in the loop that uses it: only so that is compiled to sixteen bytes a step.
+// in the loop that uses it, with nothing returned early: only so that is compiled to sixteen bytes a step.
 #[inline(always)]
-#[tactic(auto, unfolding(crate::specs::Table::rep))]
+#[tactic(auto, using(crate::specs::Rows::stays, crate::specs::Rows::ampersand, crate::specs::Rows::dollar, crate::specs::Rows::page_0, crate::specs::Rows::page_1))]
 fn straight(page: u32, b: u8) -> u8
     ensures { result ≡ rep page b }
 {
@@ -55,11 +55,25 @@ fn straight(page: u32, b: u8) -> u8
     }
 }
 
-// The same as a call, for one character: a reader of many that mostly does without gets slower where all this stands in it.
+// The same as a call, for one character, returned as soon as it is known: a reader of many that mostly does without gets slower
+// where all this stands in it.
+#[tactic(auto, using(crate::specs::Rows::stays, crate::specs::Rows::ampersand, crate::specs::Rows::dollar, crate::specs::Rows::page_0, crate::specs::Rows::page_1))]
 pub fn replaced(page: u32, b: u8) -> u8
     ensures { result ≡ rep page b }
 {
-    straight(page, b)
+    if unchanged(b) {
+        return b;
+    }
+    if b == b'&' {
+        return b'+';
+    }
+    if b == b'$' {
+        return b'S';
+    }
+    if page == 0 {
+        return german::<0x5B, 0x5C, 0x5D, 0x7E>(b);
+    }
+    german::<0xC4, 0xD6, 0xDC, 0xDF>(b)
 }
 
 // A stretch of text is replaced where it stands.

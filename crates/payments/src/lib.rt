@@ -13,7 +13,7 @@ ghost use Rattle.payments.specs.Faults.{t_fault};
 
 use fields::Class;
 use records::TField;
-use rules::{check, is, left_blank, line_blank, wholly};
+use rules::{blank_line, check, is, left_blank, wholly};
 
 // What a file is judged by: the code page that its text is read on, and the countries for transfers and for cheques.
 #[derive(Clone, Copy)]
@@ -186,11 +186,11 @@ fn rule28(transfer: &[u8], cheque: &[u8], rec: &[u8; 768]) -> Result<(), TField>
 fn rule29(page: u32, rec: &[u8; 768]) -> Result<(), TField>
     ensures { offset t_place result ≡ rule29 page rec.now }
 {
-    check(!line_blank(page, rec, TField::T10b, 1), TField::T10b)?;
+    check(!blank_line(page, rec, TField::T10b, 1), TField::T10b)?;
     if !is_cheque(rec) {
         return Ok(());
     }
-    let address = line_blank(page, rec, TField::T10b, 3) | line_blank(page, rec, TField::T10b, 4);
+    let address = blank_line(page, rec, TField::T10b, 3) | blank_line(page, rec, TField::T10b, 4);
     check(!address, TField::T10b)
 }
 

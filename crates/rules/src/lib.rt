@@ -2,7 +2,7 @@
 // of record ask of a field.
 #![tactic(auto)]
 
-ghost use Rattle.std.specs.Prelude.{◌≡◌, ◌+◌, ◌≤◌};
+ghost use Rattle.std.specs.Prelude.{◌≡◌, ◌+◌, ◌≤◌, length};
 ghost use Rattle.fields.specs.Class.{all_of, blank, same};
 ghost use Rattle.laws.specs.Found.{nonzero};
 ghost use Rattle.records.specs.Places.{part};
@@ -10,7 +10,7 @@ ghost use Rattle.rules.specs.Told.{Told, offset};
 ghost use Rattle.rules.specs.Wrong.{line_blank};
 
 use fields::Class;
-use records::Field;
+use records::{Field, Span};
 
 pub mod q;
 pub mod z;
@@ -48,8 +48,17 @@ pub fn left_blank<const N: usize, F: Field<N> + Copy>(
 }
 
 // Line k of a field is blank.
+#[inline]
 #[tactic(auto, unfolding(crate::specs::Wrong::line_blank))]
-pub fn line_blank<const N: usize, F: Field<N> + Copy>(
+pub fn line_blank(page: u32, rec: &[u8], field: Span, k: usize) -> bool
+    requires { (field.start + 140 ≤ length rec.now) × ((length rec.now ≤ 768) × ((1 ≤ k) × (k ≤ 4))) }
+    ensures { result ≡ line_blank page rec.now field k }
+{
+    fields::blank(page, records::part(rec, records::line(field, k)))
+}
+
+// The same of a field of the record's kind.
+pub fn blank_line<const N: usize, F: Field<N> + Copy>(
     page: u32,
     rec: &[u8; N],
     f: F,
@@ -58,7 +67,7 @@ pub fn line_blank<const N: usize, F: Field<N> + Copy>(
     requires { ((F.place f).start + 140 ≤ N) × ((N ≤ 768) × ((1 ≤ k) × (k ≤ 4))) }
     ensures { result ≡ line_blank page rec.now (F.place f) k }
 {
-    fields::blank(page, records::part(rec, records::line(f.place(), k)))
+    line_blank(page, rec, f.place(), k)
 }
 
 // The offset of the field that breaks a rule.

@@ -6,7 +6,7 @@ ghost use Rattle.rules.specs.Told.{offset};
 ghost use Rattle.rules.specs.Q.{rule10, rule11, rule12, rule13, rule14, rule15, rule16};
 ghost use Rattle.rules.specs.Faults.{q_fault};
 
-use crate::{check, is, line_blank, wholly};
+use crate::{blank_line, check, is, wholly};
 use fields::Class;
 use records::QField;
 
@@ -33,7 +33,7 @@ fn rule11(rec: &[u8; 256]) -> Result<(), QField>
 fn rule12(page: u32, rec: &[u8; 256]) -> Result<(), QField>
     ensures { offset q_place result ≡ rule12 page rec.now }
 {
-    check(!line_blank(page, rec, QField::Q5, 1), QField::Q5)
+    check(!blank_line(page, rec, QField::Q5, 1), QField::Q5)
 }
 
 // 13: Q6 is no date YYMMDD (years 2000 to 2099).
