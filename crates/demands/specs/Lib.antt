@@ -1,7 +1,6 @@
 pub mod Page
 pub mod Sample
 pub mod Cases
-pub mod Fours
 pub mod Broken
 pub mod Where
 pub mod Demand2

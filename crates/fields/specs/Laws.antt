@@ -1,17 +1,17 @@
--- The tests and the value of a list as the library has them, and the bound of a value.
+-- The tests and the value of a list as loops carry them along and as the library has them, and the bound of a value.
 use Rattle.std.specs.Prelude.{ℕ, zero, suc, ◌+◌, ◌*◌, ◌/◌, ◌^◌, ◌-◌, ◌<◌, ◌≤◌, ◌≡◌, refl, Bool, true, false, ◌&&◌, ◌||◌, cond, List, [], ◌∷◌, ◌++◌, eqb, leb, length, take, drop, get_or}
 use Prim.Native.Char.{code}
 use Rattle.std.specs.List.{list_all, list_any}
 use Rattle.std.specs.Simd.{first_chunks}
-use Rattle.std.proofs.Common.{sym, ap, ap₂, ◌∙◌, pow-suc, add-one, arith, leb-true, eqb-true, lit<, drop-drop}
-use Rattle.std.proofs.Math.Bool.{and-true, and_assoc, or_assoc, and-false, or-true}
+use Rattle.std.proofs.Common.{sym, ap, ap₂, ◌∙◌, pow-suc, add-one, arith, leb-true, eqb-true, eq-eqb, ne_eqb, lit<, length-drop, drop-drop}
+use Rattle.std.proofs.Math.Bool.{and-true, or-false, and_assoc, or_assoc, and-false, or-true}
 use Rattle.std.proofs.Math.Seq.{take-suc}
-use Rattle.std.proofs.lemmas.Bool.{false≢true}
+use Rattle.std.proofs.lemmas.Bool.{false≢true, eqb-false}
 use Rattle.std.proofs.lemmas.List.{length-take}
 use Rattle.std.proofs.Math.Nat.{pow-le-pow_right}
 use Rattle.laws.specs.Ascii.{ascii}
 use Rattle.laws.specs.Choice.{both}
-use Rattle.laws.specs.Steps.{fold, next}
+use Rattle.laws.specs.Steps.{fold, next, next_two}
 use Rattle.fields.specs.Class.{member, every, all_of, blank, same}
 use Rattle.fields.specs.declared.Class.{Class}
 use Rattle.fields.specs.declared.Class.TheVariants.{Digit, Zero, Space, Capital, CapitalOrDigit}
@@ -28,9 +28,17 @@ pub some_is : {A : Type 0} (test : A → Bool) (s : List A) → some test s ≡ 
 some_is test [] = refl
 some_is test (x ∷ s) = ap (λ (b : Bool). test x || b) (some_is test s)
 
+pub every_fold : {A : Type 0} (test : A → Bool) (a : Bool) (s : List A) → fold (λ (t : Bool) (x : A). t && test x) a s ≡ a && every test s
+every_fold test a [] = sym (and-true a)
+every_fold test a (x ∷ s) = every_fold test (a && test x) s ∙ and_assoc a (test x) (every test s)
+
 pub every_append : {A : Type 0} (test : A → Bool) (s t : List A) → every test (s ++ t) ≡ every test s && every test t
 every_append test [] t = refl
 every_append test (x ∷ s) t = ap (λ (b : Bool). test x && b) (every_append test s t) ∙ sym (and_assoc (test x) (every test s) (every test t))
+
+pub some_fold : {A : Type 0} (test : A → Bool) (a : Bool) (s : List A) → fold (λ (t : Bool) (x : A). t || test x) a s ≡ a || some test s
+some_fold test a [] = sym (or-false a)
+some_fold test a (x ∷ s) = some_fold test (a || test x) s ∙ or_assoc a (test x) (some test s)
 
 pub some_append : {A : Type 0} (test : A → Bool) (s t : List A) → some test (s ++ t) ≡ some test s || some test t
 some_append test [] t = refl
@@ -68,10 +76,36 @@ all_rep page c (x ∷ s) e =
     let p = both (member c x) (every (member c) s) e in
     rw (member_rep page c x p.0) (all_rep page c s p.1)
 
+-- a turn over text: t is the answer of the test of the replaced character
+pub text_turn : (page : ℕ) (c : Class) (s : List ℕ) (i : ℕ) (whole t : Bool) → i < length s
+    → all_of c (text page (drop i s)) ≡ whole → t ≡ member c (rep page (get_or s i 0))
+    → t && all_of c (text page (drop (i + 1) s)) ≡ whole
+unfolding all_of
+text_turn page c s i whole t h e q = rw q (rw (next s i 0 h) at e)
+
+-- and of bytes as they stand
+pub bytes_turn : (c : Class) (s : List ℕ) (i : ℕ) (whole t : Bool) → i < length s → all_of c (drop i s) ≡ whole
+    → t ≡ member c (get_or s i 0) → t && all_of c (drop (i + 1) s) ≡ whole
+unfolding all_of
+bytes_turn c s i whole t h e q = rw q (rw (next s i 0 h) at e)
+
 -- one character of a text
 pub blank_one : (page : ℕ) (s : List ℕ) (i : ℕ) → i < length s → blank page (take 1 (drop i s)) ≡ eqb (rep page (get_or s i 0)) (code " ")
 unfolding blank all_of
 blank_one page s i h = rw (next s i 0 h) (and-true _)
+
+-- a list's countries from place i on
+pub countries_next : (s : List ℕ) (i : ℕ) → i + 1 < length s
+    → countries (drop i s) ≡ (get_or s i 0, get_or s (i + 1) 0) ∷ countries (drop (i + 2) s)
+countries_next s i h = ap countries (next_two s i h)
+
+lone : (s : List ℕ) → length s ≤ 1 → countries s ≡ []
+lone [] h = refl
+lone (x ∷ []) h = refl
+lone (x ∷ (y ∷ s)) h = absurd (omega arith)
+
+pub countries_over : (s : List ℕ) (i : ℕ) → length s - i ≤ 1 → countries (drop i s) ≡ []
+countries_over s i h = lone (drop i s) (simp length-drop h)
 
 -- a list splits at place n where its countries are those before n and those from n on: it does at 0, and with n at n + 2
 abbrev Splits : ℕ → Type 0
@@ -81,6 +115,22 @@ two_more : (n : ℕ) → Splits n → Splits (suc (suc n))
 two_more n h [] = refl
 two_more n h (x ∷ []) = refl
 two_more n h (x ∷ (y ∷ s)) = ap (λ (l : List (ℕ × ℕ)). (x, y) ∷ l) (h s)
+
+-- a list's countries in fours, whatever its length: from the k-th four on they are those of this four and those behind it
+pub countries_fours : (s : List ℕ) (k : ℕ)
+    → countries (drop (8 * k) s) ≡ countries (take 8 (drop (8 * k) s)) ++ countries (drop (8 * (k + 1)) s)
+countries_fours s k =
+    let e : 8 * (k + 1) ≡ 8 * k + 8 = omega arith in
+    rw (e, ← drop-drop 8 (8 * k) s) (two_more 6 (two_more 4 (two_more 2 (two_more 0 (λ t. refl)))) (drop (8 * k) s))
+
+-- two pairs of bytes are the same exactly where they are the same number
+pub pairs_same : (x y a b : ℕ) → x < 256 → a < 256 → eqb (y * 256 + x) (b * 256 + a) ≡ eqb x a && eqb y b
+pairs_same x y a b h k = go (eqb x a) (eqb y b) refl refl
+  where
+    go : (p q : Bool) → eqb x a ≡ p → eqb y b ≡ q → eqb (y * 256 + x) (b * 256 + a) ≡ p && q
+    go true true e f = eq-eqb (y * 256 + x) (b * 256 + a) (omega (arith, eqb-true x a e, eqb-true y b f))
+    go true false e f = ne_eqb (y * 256 + x) (b * 256 + a) (λ z. eqb-false y b f (omega arith))
+    go false q e f = ne_eqb (y * 256 + x) (b * 256 + a) (λ z. eqb-false x a e (omega arith))
 
 -- the countries of a list are its pairs of bytes
 abbrev pub is_pair : ℕ → ℕ → List ℕ → Bool
@@ -94,17 +144,35 @@ in_pairs (x ∷ (y ∷ s)) a b =
     let e : suc (suc (length s)) / 2 ≡ suc (length s / 2) = omega arith in
     rw (e, in_pairs s a b) refl
 
+-- the countries of the k-th four, and those behind it
+four_turn : (s : List ℕ) (k a b : ℕ)
+    → is_listed (take 8 (drop (8 * k) s)) a b || is_listed (drop (8 * (k + 1)) s) a b ≡ is_listed (drop (8 * k) s) a b
+unfolding is_listed
+four_turn s k a b = rw (← some_append, ← countries_fours s k) refl
+
+-- one four more: it begins at place 8 k
+four_suc : (k : ℕ) (s : List ℕ) (a b : ℕ)
+    → list_any (λ four. is_listed four a b) (first_chunks 8 (suc k) s)
+    ≡ list_any (λ four. is_listed four a b) (first_chunks 8 k s) || is_listed (take 8 (drop (8 * k) s)) a b
+four_suc zero s a b = or-false (is_listed (take 8 s) a b)
+four_suc (suc k) s a b =
+    let e : 8 * suc k ≡ 8 + 8 * k = omega arith in
+    rw (four_suc k (drop 8 s) a b, e, ← drop-drop (8 * k) 8 s, or_assoc) refl
+
+pub four_more : (k : ℕ) (s : List ℕ) (a b : ℕ)
+    → list_any (λ four. is_listed four a b) (first_chunks 8 (k + 1) s)
+    ≡ list_any (λ four. is_listed four a b) (first_chunks 8 k s) || is_listed (take 8 (drop (8 * k) s)) a b
+four_more k s a b = rw add-one (four_suc k s a b)
+
 -- and in n fours, and what is behind them
 pub in_fours : (n : ℕ) (s : List ℕ) (a b : ℕ)
     → list_any (λ four. is_listed four a b) (first_chunks 8 n s) || is_listed (drop (n * 8) s) a b ≡ is_listed s a b
-unfolding is_listed
 in_fours zero s a b = refl
 in_fours (suc n) s a b =
-    let e : suc n * 8 ≡ 8 + n * 8 = omega arith in
-    rw (e, ← drop-drop (n * 8) 8 s, or_assoc, in_fours n (drop 8 s) a b, ← some_append, ← eight s) refl
-  where
-    eight : Splits 8
-    eight = two_more 6 (two_more 4 (two_more 2 (two_more 0 (λ t. refl))))
+    let more = rw add-one at (four_more n s a b) in
+    let e : suc n * 8 ≡ 8 * (n + 1) = omega arith in
+    let f : 8 * n ≡ n * 8 = omega arith in
+    rw (more, e, or_assoc, four_turn s n a b, f) (in_fours n s a b)
 
 -- one element more of each
 same_suc : (s t : List ℕ) (i : ℕ) → i < length s → i < length t
@@ -135,6 +203,14 @@ same_is [] (y ∷ t) e = absurd (false≢true e)
 same_is (x ∷ s) [] e = absurd (false≢true e)
 same_is (x ∷ s) (y ∷ t) e = let w = both (eqb x y) (same s t) e in ap₂ ◌∷◌ (eqb-true x y w.0) (same_is s t w.1)
 
+-- two bytes, one by one
+pub same_two : (s : List ℕ) → length s ≡ 2 → (a b : ℕ) → eqb (get_or s 0 0) a && eqb (get_or s 1 0) b ≡ same s (a ∷ b ∷ [])
+unfolding same
+same_two [] h a b = absurd (omega arith)
+same_two (x ∷ []) h a b = absurd (omega arith)
+same_two (x ∷ (y ∷ [])) h a b = ap (λ (t : Bool). eqb x a && t) (sym (and-true (eqb y b)))
+same_two (x ∷ (y ∷ (z ∷ s))) h a b = absurd (omega arith)
+
 pub digit_lt : (b : ℕ) → digit_of b < 10
 digit_lt b = go (leb 48 b) (leb b 57) refl
   where
@@ -143,11 +219,11 @@ digit_lt b = go (leb 48 b) (leb b 57) refl
     go true false e = lit< tt
     go false high e = lit< tt
 
-tens_le : (i n : ℕ) → i ≤ n → 10 ^ i ≤ 10 ^ n
+pub tens_le : (i n : ℕ) → i ≤ n → 10 ^ i ≤ 10 ^ n
 tens_le i n h = pow-le-pow_right {n = 10} (lit< tt) h
 
 -- one digit more
-digits_more : (v d i : ℕ) → v < 10 ^ i → d < 10 → v * 10 + d < 10 ^ (i + 1)
+pub digits_more : (v d i : ℕ) → v < 10 ^ i → d < 10 → v * 10 + d < 10 ^ (i + 1)
 digits_more v d i h k = rw (add-one i, pow-suc) (omega arith)
 
 fold_lt : (s : List ℕ) (v i : ℕ) → v < 10 ^ i → fold (λ (v b : ℕ). v * 10 + digit_of b) v s < 10 ^ (i + length s)

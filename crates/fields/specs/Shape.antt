@@ -1,5 +1,5 @@
--- BIC shape as the code asks for it: of the bytes as they stand.
-use Rattle.std.specs.Prelude.{ℕ, ◌≡◌, refl, Bool, true, false, ◌&&◌, ◌||◌, List, take, drop}
+-- BIC shape as the code asks for it: of the bytes as they stand, and one part after another.
+use Rattle.std.specs.Prelude.{ℕ, ◌≡◌, refl, Bool, true, false, ◌&&◌, ◌||◌, cond, List, take, drop}
 use Rattle.std.proofs.Math.Bool.{or-true}
 use Rattle.laws.specs.Choice.{both}
 use Rattle.charset.specs.Table.{text}
@@ -30,3 +30,12 @@ shape_kept page t8 e =
         → all_of Space (text page (take 3 (drop 8 t8))) || branch ≡ true
     go true p q = rw (all_rep page Space (take 3 (drop 8 t8)) p)
     go false p q = rw (all_rep page CapitalOrDigit (take 3 (drop 8 t8)) q) (or-true (all_of Space (text page (take 3 (drop 8 t8)))))
+
+-- the parts in turn
+pub by_turns : (bank country place no-branch branch : Bool)
+    → bank && country && place && (no-branch || branch) ≡ cond bank (cond country (cond place (cond no-branch true branch) false) false) false
+by_turns true true true true branch = refl
+by_turns true true true false branch = refl
+by_turns true true false no-branch branch = refl
+by_turns true false place no-branch branch = refl
+by_turns false country place no-branch branch = refl

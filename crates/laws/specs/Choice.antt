@@ -2,7 +2,7 @@
 -- Each law says: with the test decided as it was, what equals the chosen side equals the choice. `search picks` finds
 -- the tests among what is known at a place of the code.
 use Rattle.std.specs.Prelude.{ℕ, ◌<◌, ◌≤◌, ◌≡◌, refl, Bool, true, false, cond, not, ◌&&◌, ◌||◌, ltb, leb, eqb}
-use Rattle.std.proofs.Common.{sym, ap, subst, ◌∙◌, true≢false, lt-ltb, le-ltb, le-leb, eq-eqb, ne_eqb}
+use Rattle.std.proofs.Common.{sym, ap, ap₂, subst, ◌∙◌, true≢false, lt-ltb, le-ltb, le-leb, eq-eqb, ne_eqb}
 use Rattle.std.proofs.lemmas.Bool.{lt-leb, not-true, not-false}
 
 pub on : {A : Type 0} {x z : A} {b : Bool} (y : A) → b ≡ true → z ≡ x → z ≡ cond b x y
@@ -58,6 +58,17 @@ pub off_ne : {A : Type 0} {y z : A} {a b r : ℕ} (x : A) → r ≡ a → r ≡ 
 off_ne x e t h = off x (ap not (eq-eqb _ _ (sym e ∙ t))) h
 
 pub ruleset picks = (on_eq, off_eq, on_lt, off_lt, on_le, off_le, on_call, off_call, on_not, off_not, on_below, off_below)
+
+-- the same choice, by a test and a first side that are known by other names
+pub same_choice : {A : Type 0} {b b' : Bool} {x x' z : A} (y : A) → z ≡ cond b x y → b ≡ b' → x ≡ x' → z ≡ cond b' x' y
+same_choice {A = A} y e p q = e ∙ ap₂ (λ (t : Bool) (v : A). cond t v y) p q
+
+-- the first test decides; r is what a function answered of it
+pub or_on : {a r : Bool} (b : Bool) → r ≡ a → r ≡ true → a || b ≡ true
+or_on b e t = ap (λ (u : Bool). u || b) (sym e ∙ t)
+
+pub and_off : {a r : Bool} (b : Bool) → r ≡ a → r ≡ false → a && b ≡ false
+and_off b e t = ap (λ (u : Bool). u && b) (sym e ∙ t)
 
 -- both tests of a conjunction
 pub both : (a b : Bool) → a && b ≡ true → (a ≡ true) × (b ≡ true)

@@ -4,3 +4,4 @@ pub mod Found
 pub mod Scan
 pub mod Steps
 pub mod Sums
+pub mod Values
