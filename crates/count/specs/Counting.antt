@@ -1,7 +1,7 @@
 -- The turns of counting: a field more, a record more.
 use Rattle.std.specs.Prelude.{ℕ, ◌+◌, ◌≤◌, ◌<◌, ◌≡◌, refl, false, List, [], ◌∷◌, eqb, length}
-use Rattle.std.proofs.Common.{sym, ap, ◌∙◌, arith, ne_eqb, length-append}
-use Rattle.records.specs.Places.{part, t_text}
+use Rattle.std.proofs.Common.{sym, ap, ◌∙◌, arith, add-zero, ne_eqb, length-append}
+use Rattle.records.specs.Places.{part, q_text, t_text}
 use Rattle.records.specs.declared.Span.{Span}
 use Rattle.forwarding.specs.Text.{q_texts, t_texts}
 use Rattle.forwarding.specs.Forwarded.{notes_of}
@@ -13,8 +13,11 @@ use Rattle.forwarding.specs.Pieces.{noted_in, noted_few, noted_page, noted_more,
 use Rattle.forwarding.specs.Sized.{z_at, Sized, Begins, fits, begins_first, begins_next, begins_last}
 use Rattle.forwarding.specs.Found.{same_part, t_short}
 
--- the fields of T below k, and field k
+-- Q5 alone; the fields of T below k, and field k
 module _ (rec : List ℕ) {s : Span} {field : List ℕ} where
+  pub count_q5 : {n : ℕ} → s ≡ q_text 1 → field ≡ part s rec → n ≡ changes field → n ≡ field_changes q_texts rec
+  count_q5 at bytes e = e ∙ ap changes (same_part at rec bytes) ∙ sym (add-zero (changes (part (q_text 1) rec)))
+
   pub count_field : (k : ℕ) {n c : ℕ} → 2 ≤ k → k < 10 → s ≡ t_text k → field ≡ part s rec → n ≡ field_changes (texts_below k) rec
       → c ≡ changes field → n + c ≡ field_changes (texts_below (k + 1)) rec
   count_field k {n} {c} low high at bytes p q =

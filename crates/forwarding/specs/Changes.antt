@@ -1,7 +1,7 @@
 -- Which characters the table changes does not depend on the page: the notes of a text are the same on every page, and so is
 -- how many they are.
 use Rattle.std.specs.Prelude.{ℕ, suc, ◌+◌, ◌*◌, ◌≤◌, ◌≡◌, refl, Bool, true, false, ◌&&◌, not, cond, List, [], ◌∷◌, ◌++◌, eqb, length}
-use Rattle.std.proofs.Common.{sym, ap, ap₂, ◌∙◌, add-zero, arith, eqb-true, eq-eqb, ne_eqb, length-append}
+use Rattle.std.proofs.Common.{sym, ap, ap₂, ◌∙◌, add-zero, arith, eqb-true, eq-eqb, ne_eqb, lit≤, length-append}
 use Rattle.std.proofs.Math.Bool.{and-true, and_assoc}
 use Rattle.laws.specs.Choice.{either, both}
 use Rattle.laws.specs.Steps.{fold}
@@ -113,3 +113,6 @@ unchanged_fwd page t i (b ∷ s) e =
     let h = both (unchanged b) (eqb (changes s) 0) (sym (none_more b s) ∙ eq-eqb (changes (b ∷ s)) 0 e) in
     ap₂ ◌∷◌ (either (λ (c : ℕ). c ≡ b) (t i) (rep page b) b (unchanged_rep page b h.0) refl)
     (unchanged_fwd page t (suc i) s (eqb-true (changes s) 0 h.1))
+
+pub changed_few : (b : ℕ) → changed b ≤ 1
+changed_few b = either (λ (n : ℕ). n ≤ 1) (unchanged b) 0 1 (lit≤ tt) (lit≤ tt)

@@ -1,6 +1,7 @@
 -- The text fields of a T record by their numbers, 2 to 9, as a loop over them meets them.
 use Rattle.std.specs.Prelude.{ℕ, zero, suc, ◌+◌, ◌-◌, ◌≤◌, ◌<◌, ◌≡◌, refl, Bool, List, [], ◌∷◌, ◌++◌, leb, ltb, T, length, take, drop}
 use Rattle.std.proofs.Common.{sym, ap, subst, ◌∙◌, ⊎_elim, eq-or-lt_of_le, arith, leb→le, ltb→lt, take-append-drop, length-take-le, take-take}
+use Rattle.std.proofs.lemmas.List.{drop_all}
 use Rattle.records.specs.Places.{t_text}
 use Rattle.records.specs.declared.Span.{Span}
 use Rattle.forwarding.specs.Text.{t_texts}
@@ -54,6 +55,11 @@ module _ (k : ℕ) (low : 2 ≤ k) (high : k < 10) where
   texts_from_more first low' =
       let long = length-take-le (k - 2) t_texts (omega arith) in
       ap (drop (first - 2)) texts_more ∙ drop_front (first - 2) (texts_below k) (t_text k ∷ []) (omega arith)
+
+pub texts_from_none : (first : ℕ) → 2 ≤ first → first ≤ 10 → texts_from first first ≡ []
+texts_from_none first low high =
+    let long = length-take-le (first - 2) t_texts (omega arith) in
+    drop_all (first - 2) (texts_below first) (omega arith)
 
 -- those up to a number, and the rest
 pub texts_from_rest : (first j end : ℕ) → 2 ≤ j → first ≤ j → j ≤ end → end ≤ 10

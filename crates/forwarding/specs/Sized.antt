@@ -2,6 +2,7 @@
 -- places, from Q's end to Z's beginning.
 use Rattle.std.specs.Prelude.{ℕ, ◌+◌, ◌*◌, ◌-◌, ◌%◌, ◌≤◌, ◌<◌, ◌≡◌, refl, List, length}
 use Rattle.std.proofs.Common.{arith}
+use Rattle.forwarding.specs.Between.{between, between_long}
 
 pub record Sized (file : List ℕ) : Type 0 where
   pub payments : ℕ
@@ -34,3 +35,6 @@ module _ {file : List ℕ} {at : ℕ} (s : Sized file) (b : Begins file at) wher
 
     pub begins_next : Begins file (at + 768)
     begins_next = record { low = omega (arith, b.low); high = z_follows; turn = omega (arith, b.turn) }
+
+    pub rec_long : length (between at (at + 768) file) ≡ 768
+    rec_long = omega (arith, between_long at (at + 768) file fits)

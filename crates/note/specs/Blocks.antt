@@ -1,9 +1,26 @@
 -- Noting the first n characters sixteen a turn, of which the last turn may look beyond these.
-use Rattle.std.specs.Prelude.{ℕ, ◌+◌, ◌*◌, ◌-◌, ◌/◌, ◌≤◌, ◌<◌, ◌≡◌, List, [], ◌++◌, length, take, drop}
+use Rattle.std.specs.Prelude.{ℕ, ◌+◌, ◌*◌, ◌-◌, ◌/◌, ◌≤◌, ◌<◌, ◌≡◌, cond, List, [], ◌++◌, ltb, length, take, drop}
 use Rattle.std.specs.Simd.{first_chunks}
-use Rattle.std.proofs.Common.{sym, ap, ◌∙◌, arith, get_or, min, take-add, take-take, length-take-le}
+use Rattle.std.proofs.Common.{sym, ap, ◌∙◌, arith, get_or, min, take-add, take-take, length-take-le, ltb-true, ltb-false}
+use Rattle.laws.specs.Choice.{either_known}
 use Rattle.forwarding.specs.Turns.{chunks_long, chunk_in}
 use Rattle.forwarding.specs.Noted.{Noted, first_notes, more_fit, more_noted}
+
+-- the characters of a turn, which is lent sixteen
+abbrev pub turn : ℕ → ℕ → List ℕ → List ℕ
+turn i next s = take (next - i) (take (i + 16 - i) (drop i s))
+
+-- from character i to the next turn's first, or to the field's end
+module _ (i n : ℕ) (more : i < n) {next : ℕ} (e : next ≡ cond (ltb (i + 16) n) (i + 16) n) where
+  abbrev Next : ℕ → Type 0
+  Next k = (i < k) × (k ≤ n) × (k ≤ i + 16)
+
+  pub next_turn : (i < next) × (next ≤ n) × (next ≤ i + 16)
+  next_turn =
+      rw e
+      (either_known Next (ltb (i + 16) n)
+      (λ t. let l : i + 16 < n = ltb-true (i + 16) n t in (omega arith, omega arith, omega arith))
+      (λ f. (more, omega arith, ltb-false (i + 16) n f)))
 
 -- the characters of each turn
 abbrev pub sixteens : ℕ → List ℕ → List (List ℕ)

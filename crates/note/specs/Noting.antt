@@ -1,6 +1,8 @@
 -- The turns of noting: a field more, a record more.
-use Rattle.std.specs.Prelude.{ℕ, ◌+◌, ◌≤◌, ◌<◌, ◌≡◌, List, ◌++◌, length}
+use Rattle.std.specs.Prelude.{ℕ, ◌+◌, ◌≤◌, ◌<◌, ◌≡◌, List, [], ◌∷◌, ◌++◌, length}
 use Rattle.std.proofs.Common.{sym, ap, ◌∙◌, arith, length-append}
+use Rattle.records.specs.Places.{q_text}
+use Rattle.records.specs.declared.Span.{Span}
 use Rattle.forwarding.specs.Text.{q_texts, t_texts}
 use Rattle.forwarding.specs.Forwarded.{notes_of}
 use Rattle.forwarding.specs.Changes.{notes_page}
@@ -9,6 +11,10 @@ use Rattle.forwarding.specs.Fields.{field_notes}
 use Rattle.forwarding.specs.Noted.{Noted, noted_none, noted_is, noted_length, noted_append}
 use Rattle.forwarding.specs.Pieces.{noted_in, noted_more, q_noted, t_noted, all_noted}
 use Rattle.forwarding.specs.Sized.{z_at, Sized, Begins, fits, begins_first, begins_next, begins_last}
+
+module _ (rec : List ℕ) {s : Span} where
+  pub q5_notes : s ≡ q_text 1 → field_notes (s ∷ []) 0 rec ≡ field_notes q_texts 0 rec
+  q5_notes at = ap (λ (s : Span). field_notes (s ∷ []) 0 rec) at
 
 -- the notes of the T records before place `at` are put behind the `have` that were there
 pub record NotedTo (file : List ℕ) (have : ℕ) (ps ps' : List ℕ) (n at : ℕ) : Type 0 where

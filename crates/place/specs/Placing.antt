@@ -1,7 +1,7 @@
 -- The turns of placing: a field replaced where it stands, a record at its place.
-use Rattle.std.specs.Prelude.{ℕ, ◌+◌, ◌-◌, ◌≤◌, ◌<◌, ◌≡◌, true, List, [], ◌∷◌, ◌++◌, take, drop}
+use Rattle.std.specs.Prelude.{ℕ, ◌+◌, ◌-◌, ◌≤◌, ◌<◌, ◌≡◌, refl, true, List, [], ◌∷◌, ◌++◌, take, drop}
 use Rattle.std.proofs.Math.Path.{sym, ap}
-use Rattle.std.proofs.Common.{◌∙◌, append-nil, append_assoc, arith, length-append, take_all}
+use Rattle.std.proofs.Common.{◌∙◌, append-nil, append_assoc, arith, lit≤, length-append, take_all}
 use Rattle.std.proofs.Math.ListN.{length, length-drop}
 use Rattle.charset.specs.Table.{rep}
 use Rattle.records.specs.Places.{part, t_text}
@@ -87,6 +87,13 @@ module _ (page : ℕ) (rec : List ℕ) (first k : ℕ) {s : Span} (low : 2 ≤ k
         → Noted (field_notes (s ∷ []) a rec) n ps' ps'' m → Noted (field_notes (texts_from first (k + 1)) a rec) have ps ps'' m
     noted_from end more most room u v =
         noted_is (sym notes_from) (noted_append u v (omega (arith, notes_all_fit end more most)))
+
+-- T8 to T10b lie so, and T12 to T24; and these are all
+pub t8_on : TheseLie 53 2 5
+t8_on = record { low = lit≤ tt; some = lit≤ tt; high = lit≤ tt; inside = lit≤ tt; there = refl }
+
+pub t12_on : TheseLie 420 5 10
+t12_on = record { low = lit≤ tt; some = lit≤ tt; high = lit≤ tt; inside = lit≤ tt; there = refl }
 
 pub both_notes : (a : ℕ) (rec : List ℕ) → field_notes t_texts a rec ≡ field_notes (texts_from 2 5) a rec ++ field_notes (texts_from 5 10) a rec
 both_notes a rec = notes_more (texts_from 2 5) (texts_from 5 10) a rec

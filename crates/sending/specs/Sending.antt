@@ -1,6 +1,6 @@
 -- Sending a file's kept payments: record by record, and then Q before them and Z behind.
-use Rattle.std.specs.Prelude.{ℕ, ◌+◌, ◌≤◌, ◌<◌, ◌≡◌, List, [], ◌∷◌, ◌++◌, length, Option}
-use Rattle.std.proofs.Common.{sym, ap, subst, ◌∙◌, arith}
+use Rattle.std.specs.Prelude.{ℕ, ◌+◌, ◌-◌, ◌≤◌, ◌<◌, ◌≡◌, List, [], ◌∷◌, ◌++◌, length, Option}
+use Rattle.std.proofs.Common.{sym, ap, subst, ◌∙◌, arith, length-append}
 use Rattle.laws.specs.Found.{nonzero, or_zero, or_zero_nonzero}
 use Rattle.payments.specs.Rules.{key_of}
 use Rattle.structure.specs.Slots.{slot_at}
@@ -9,15 +9,16 @@ use Rattle.structure.specs.Shape.{Fits}
 use Rattle.forwarding.specs.Put.{put}
 use Rattle.forwarding.specs.Pieces.{sent_in, noted_in}
 use Rattle.forwarding.specs.Sized.{z_at, begins_last}
-use Rattle.forwarding.specs.Noted.{Noted, noted_is}
+use Rattle.forwarding.specs.Noted.{Noted, noted_is, noted_length}
 use Rattle.judge.specs.Records.{file_of, Lengths}
 use Rattle.judge.specs.Apart.{slots_from, slots_count}
-use Rattle.place.specs.Placing.{place_last}
-use Rattle.note.specs.Noting.{note_last}
+use Rattle.place.specs.Placing.{place_same, place_last}
+use Rattle.note.specs.Noting.{note_same, note_last}
 use Rattle.sorting.specs.Kept.{kept, named, t_records, rule_in, kept_in, named_in, kept_file}
+use Rattle.sorting.specs.Lists.{named_append}
 use Rattle.sorting.proofs.Sound.{first_below}
 use Rattle.sorting.specs.Course.{place_of, z_at_place}
-use Rattle.sorting.specs.Frame.{fit, records_are, behind, records_split, records_more, z_of, kept_lengths, kept_few, kept_sized}
+use Rattle.sorting.specs.Frame.{fit, records_are, behind, records_upto, records_split, records_more, z_of, kept_lengths, kept_few, kept_sized}
 use Rattle.sending.specs.Turns.{next_are, Paid, RoomFor}
 use Rattle.sending.specs.Course.{SentTo, Rooms, sent_first, sent_room, sent_one}
 use Rattle.sending.specs.declared.Next.{Next}
@@ -96,13 +97,13 @@ module _ (page : ℕ) (file transfer cheque : List ℕ) (n : ℕ) (e : structure
 
   module _ (k : ℕ) (l : k < n) {next : Next} {out' notes' list' : List ℕ} (h : SentIn page file transfer cheque have out notes list k next out' notes' list')
       (first : ℕ) (asked : first ≡ rule (slot_at file (k + 1))) where
-    send_room : first < 100 → RoomFor (slot_at file (k + 1)) (k + 1) first next out' notes' list'
+    pub send_room : first < 100 → RoomFor (slot_at file (k + 1)) (k + 1) first next out' notes' list'
     unfolding kept_file
     send_room low =
         room_behind (t_records file) (z_of file n e page transfer cheque) k l (records_split file n e k l) (kept_lengths file n e page transfer cheque)
         (kept_few file n e page transfer cheque) rooms h first asked low
 
-    send_next : {next'' : Next} {out'' notes'' list'' : List ℕ} → Paid page (slot_at file (k + 1)) (k + 1) first next out' notes' list' next'' out'' notes'' list''
+    pub send_next : {next'' : Next} {out'' notes'' list'' : List ℕ} → Paid page (slot_at file (k + 1)) (k + 1) first next out' notes' list' next'' out'' notes'' list''
         → SentIn page file transfer cheque have out notes list (k + 1) next'' out'' notes'' list''
     unfolding kept_file
     send_next p =
@@ -125,6 +126,19 @@ module _ (page : ℕ) (file transfer cheque : List ℕ) (n : ℕ) (e : structure
     one_sent p = send_next k l h (or_zero o) asked p
 
   module _ (k : ℕ) (l : k ≤ n) {next : Next} {out' notes' list' : List ℕ} (h : SentIn page file transfer cheque have out notes list k next out' notes' list') where
+    pub out_same : length out' ≡ length out
+    out_same = place_same page (kept_sized file n e page transfer cheque) rooms.bytes h.placed
+
+    pub notes_same : length notes' ≡ length notes
+    notes_same = note_same (kept_sized file n e page transfer cheque) rooms.places h.noted
+
+    pub list_same : length list' ≡ length list
+    list_same =
+        let us = slots_from file 1 k in
+        let rest = slots_from file (k + 1) (n - k) in
+        noted_length h.listed
+        (omega (arith, rooms.names, ap (λ (ts : List (List ℕ)). length (named rule 1 ts)) (records_upto file n e k l), ap length (named_append rule 1 us rest), length-append (named rule 1 us) (named rule (1 + length us) rest)))
+
     pub send_last : n ≤ k → Sent page file transfer cheque have out notes list next out' notes' list'
     send_last all =
         let end : k ≡ n = omega arith in

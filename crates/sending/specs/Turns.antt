@@ -1,10 +1,11 @@
 -- The turns of sending: a T record that is placed and noted, or named.
-use Rattle.std.specs.Prelude.{ℕ, ◌+◌, ◌*◌, ◌≤◌, ◌<◌, ◌≡◌, refl, cond, List, [], ◌∷◌, eqb, length}
-use Rattle.std.proofs.Common.{ap, eq-eqb}
-use Rattle.laws.specs.Choice.{on_eq}
+use Rattle.std.specs.Prelude.{ℕ, ◌+◌, ◌*◌, ◌≤◌, ◌<◌, ◌≡◌, refl, cond, List, [], ◌∷◌, eqb, length, set}
+use Rattle.std.proofs.Common.{ap, eq-eqb, ne_eqb}
+use Rattle.laws.specs.Choice.{on_eq, off_eq}
 use Rattle.charset.specs.Table.{rep}
 use Rattle.forwarding.specs.Text.{lies, t_texts}
 use Rattle.forwarding.specs.Forwarded.{fwd}
+use Rattle.forwarding.specs.Put.{put_one}
 use Rattle.forwarding.specs.Fields.{field_notes}
 use Rattle.forwarding.specs.Noted.{Noted, noted_none}
 use Rattle.place.specs.Placing.{back_as}
@@ -28,6 +29,16 @@ abbrev pub next_are : ℕ → ℕ → ℕ → Next
 next_are at notes names = record { at = at; notes = notes; names = names }
 
 module _ (page : ℕ) (t : List ℕ) (k rule : ℕ) (next : Next) (out notes list : List ℕ) where
+  pub paid_back : {v : ℕ} → (rule ≡ 0 → ⊥) → next.names < length list → v ≡ k * 100 + rule
+      → Paid page t k rule next out notes list (next_are next.at next.notes (next.names + 1)) out notes (set list next.names v)
+  paid_back {v} f l e =
+      record {
+        at_is = off_eq _ f refl;
+        placed = off_eq _ f refl;
+        noted = rw (ne_eqb rule 0 f) (noted_none next.notes notes);
+        listed = rw (ne_eqb rule 0 f) (record { next_is = refl; places_are = rw e (put_one next.names (k * 100 + rule) list l) });
+      }
+
   pub paid_out : {n : ℕ} {ys notes' : List ℕ} → rule ≡ 0 → ys ≡ fwd (rep page) (lies t_texts) 0 t
       → Noted (field_notes t_texts next.at t) next.notes notes notes' n
       → Paid page t k rule next out notes list (next_are (next.at + 768) n next.names) (back_as next.at (next.at + 768) ys out) notes' list

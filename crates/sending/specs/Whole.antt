@@ -17,7 +17,7 @@ use Rattle.forwarding.specs.Sized.{z_at, Sized}
 use Rattle.forwarding.specs.Noted.{Noted}
 use Rattle.judge.specs.Sums.{euros}
 use Rattle.judge.specs.Records.{joined, file_of, Lengths}
-use Rattle.place.specs.Placing.{back_as, q_same, after_t}
+use Rattle.place.specs.Placing.{back_as, q_same, after_t, same_t}
 use Rattle.note.specs.Noting.{q_room, t_room, note_all}
 use Rattle.sorting.specs.Kept.{fresh_z, kept_in, named_in, kept_file}
 use Rattle.sorting.specs.Frame.{z_is, z_of, kept_lengths, kept_sized}
@@ -94,6 +94,13 @@ module _ (page : ℕ) (file : List ℕ) (n : ℕ) (transfer cheque : List ℕ) {
 
     -- then the T records
     module _ {next : Next} {out₂ notes₂ list₂ : List ℕ} (sent : Sent page file transfer cheque have out₁ notes₁ list next out₂ notes₂ list₂) where
+      pub z_room : next.at + 256 ≤ length out₂
+      z_room =
+          omega (arith, sent.at_is, can.bytes, sized.long, same_t page whole out sized can.bytes ys placed_q e₁ sent.placed)
+
+      pub z_low : next.at + 256 ≤ 7679744
+      z_low = omega (arith, sent.at_is, sized.long, sized.most)
+
       -- and then Z
       pub all_sent : {z fz : List ℕ} → z ≡ slot_at file (n + 1) → fz ≡ fresh_z z kept sum
           → FileSent page file transfer cheque out notes list (back_as next.at (next.at + 256) fz out₂) notes₂ list₂

@@ -1,6 +1,8 @@
 -- The turn of writing digits, from the last to the first; and Z with the digits of both figures written in.
-use Rattle.std.specs.Prelude.{ℕ, ◌≡◌}
-use Rattle.std.proofs.Common.{◌∙◌, arith, ap, ap₂, List, length}
+use Rattle.std.specs.Prelude.{ℕ, zero, suc, ◌+◌, ◌-◌, ◌/◌, ◌%◌, ◌≤◌, ◌<◌, ◌≡◌, take, drop, set}
+use Prim.Native.Char.{code}
+use Rattle.std.proofs.Common.{sym, ◌∙◌, arith, ap, ap₂, List, [], ◌∷◌, ◌++◌, append_assoc, length, drop_at, length-take-le}
+use Rattle.std.proofs.lemmas.List.{set_split}
 use Rattle.records.specs.Places.{z_place}
 use Rattle.records.specs.declared.Span.{Span}
 use Rattle.records.specs.declared.ZField.TheVariants.{Z3, Z4}
@@ -9,6 +11,18 @@ use Rattle.forwarding.specs.Between.{between, between_long}
 use Rattle.place.specs.Placing.{back_as}
 use Rattle.sorting.specs.Kept.{digits, fresh_z}
 use Rattle.sorting.specs.Digits.{digits_length}
+
+-- what is written, and the digits of the rest before it
+pub digit_more : (i v : ℕ) (out : List ℕ) (x : ℕ) → 0 < i → i ≤ length out → x ≡ code "0" + v % 10
+    → digits (i - 1) (v / 10) ++ drop (i - 1) (set out (i - 1) x) ≡ digits i v ++ drop i out
+digit_more zero v out x h l e = absurd (omega arith)
+digit_more (suc j) v out x h l e =
+    let back : suc j - 1 ≡ j = omega arith in
+    let written : drop j (set out j x) ≡ x ∷ drop (suc j) out =
+    ap (drop j) (set_split out j x (omega arith)) ∙ drop_at (take j out) (x ∷ drop (suc j) out) j (length-take-le j out (omega arith)) in
+    ap (λ (k : ℕ). digits k (v / 10) ++ drop k (set out k x)) back
+    ∙ ap (λ (l : List ℕ). digits j (v / 10) ++ l) (written ∙ ap (λ (d : ℕ). d ∷ drop (suc j) out) e)
+    ∙ sym (append_assoc (digits j (v / 10)) ((code "0" + v % 10) ∷ []) (drop (suc j) out))
 
 -- both figures written into a Z
 module _ (z : List ℕ) (l : length z ≡ 256) (payments euros : ℕ) where
@@ -42,3 +56,7 @@ module _ (z : List ℕ) (l : length z ≡ 256) (payments euros : ℕ) where
       ap₂ (λ (s : Span) (ys : List ℕ). back_as s.start s.end xs ys) u first
       ∙ ap (λ (xs : List ℕ). back_as 20 35 xs with_euros) here
       ∙ put_part 20 35 (digits 15 payments) with_euros (omega arith) (digits_length 15 payments)
+
+  pub room_left : {s : Span} {d ys : List ℕ} → d ≡ z → s ≡ z_place Z3 → ys ≡ digits (length (between s.start s.end d)) euros
+      → length (back_as s.start s.end ys d) ≡ 256
+  room_left e p q = ap length (euros_in e p q) ∙ with_long

@@ -25,5 +25,4 @@ overflow_add-n c =
 
 pub returns : goal.returns
 returns c =
-    let ts = c.t_records-t-items.ensures in
-    count_all c.requires c.loop-t.invariant (turn_last c.requires ts c.loop-t-test.false)
+    count_all c.requires c.loop-t.invariant (turn_last c.requires c.t_records-t-items.ensures c.loop-t-test.false)
