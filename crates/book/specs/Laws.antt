@@ -1,14 +1,16 @@
 -- One place more: what is held in the places so far, and the book that holds it.
-use Rattle.std.specs.Prelude.{◌≡◌, ℕ, suc, ◌+◌, ◌-◌, ◌%◌, ◌^◌, ◌<◌, ◌≤◌, Bool, true, false, cond, List, [], ◌∷◌, ◌++◌, map, length, take, set, replicate, slice_index_or, slice_set, refl}
-use Rattle.std.proofs.Common.{sym, ◌∙◌, append-nil, arith, add-one, length-append, length-take, take-suc}
+use Rattle.std.specs.Prelude.{◌≡◌, ℕ, suc, ◌+◌, ◌-◌, ◌%◌, ◌^◌, ◌<◌, ◌≤◌, min, Bool, true, false, cond, ◌||◌, List, [], ◌∷◌, ◌++◌, map, length, get_or, take, set, replicate, ◌==◌, nat_eq, nat_le, slice_index_or, slice_set, refl}
+use Rattle.std.proofs.Common.{sym, ◌∙◌, append-nil, arith, add-one, leb-true, leb-false, length-append, length-take, take-suc, take_all}
 use Rattle.std.proofs.Math.Path.{ap}
+use Rattle.std.proofs.Math.Bool.{or-false}
 use Rattle.std.proofs.Math.Nat.{mod-add-mod}
 use Rattle.std.proofs.lemmas.List.{length-map}
 use Rattle.std.proofs.Math.Seq.{take-append_seam, set-append_seam, append_snoc}
 use Rattle.laws.specs.Sums.{sum_of, sum_append}
+use Rattle.fields.specs.Laws.{some_append}
 use Rattle.book.specs.declared.Entry.{Entry}
 use Rattle.book.specs.declared.Book.{Book}
-use Rattle.book.specs.Model.{Model, model, is_forgotten, held_on}
+use Rattle.book.specs.Model.{Model, model, is_forgotten, held_on, holds}
 use Rattle.book.specs.Kept.{entry_of, held_in, places_of, book_of}
 
 -- what the inner functions promise: the book on a day, without what is forgotten by then; and with one entry more
@@ -21,6 +23,11 @@ with_totals b e payments euros =
 
 abbrev pub with_entry : Book → Entry → Book
 with_entry b e = with_totals b e ((b.payments + e.payments) % 2 ^ 64) ((b.euros + e.euros) % 2 ^ 64)
+
+-- p and q are the totals as calls added them up
+pub totals_added : (b : Book) (e : Entry) {p q : ℕ} → p ≡ (b.payments + e.payments) % 2 ^ 64
+    → q ≡ (b.euros + e.euros) % 2 ^ 64 → with_totals b e p q ≡ with_entry b e
+totals_added b e p q i = with_totals b e (p i) (q i)
 
 -- a list has the length of what is made of it element by element
 pub unmapped : (B : Type 0) (f : Entry → B) (es : List Entry) (n : ℕ) → length (map f es) ≡ n → length es ≡ n
@@ -93,11 +100,30 @@ module _ (es : List Entry) (i : ℕ) (d : Entry) (in_List : i < length es) where
   next : take i es ++ (slice_index_or es i d ∷ []) ≡ take (i + 1) es
   next = sym (rw (add-one i) (take-suc es i d in_List))
 
+  pub holds_next : (number : ℕ) → holds number (take i es) || ((get_or es i d).number == number) ≡ holds number (take (i + 1) es)
+  holds_next number =
+      ap (λ (b : Bool). holds number (take i es) || b) (sym (or-false ((get_or es i d).number == number)))
+      ∙ sym (some_append (λ (e : Entry). nat_eq e.number number) (take i es) (slice_index_or es i d ∷ []))
+      ∙ ap (holds number) next
+
   pub keeps_next : (day : ℕ) → i < 200
       → unless_forgotten day (book_of (model day (held_on day (take i es)))) (slice_index_or es i d) ≡ book_of (model day (held_on day (take (i + 1) es)))
   keeps_next day few =
       keeps day (take i es) (slice_index_or es i d) (omega (arith, length-take i es))
       ∙ ap (λ (xs : List Entry). book_of (model day (held_on day xs))) next
+
+-- the places up to the last that holds something
+pub filled : (i n : ℕ) (es : List Entry) → length es ≡ 200 → i ≡ min 200 n → take i es ≡ take n es
+filled i n es long e = go (nat_le n 200) refl
+  where
+    go : (b : Bool) → nat_le n 200 ≡ b → take i es ≡ take n es
+    go true h =
+        let same : i ≡ n = omega (arith, e, leb-true n 200 h) in
+        ap (λ (m : ℕ). take m es) same
+    go false h =
+        let few : length es ≤ n = omega (arith, long, leb-false n 200 h) in
+        let all : length es ≤ i = omega (arith, e, few, long) in
+        take_all i es all ∙ sym (take_all n es few)
 
 -- what the book of a model holds
 pub held_is : (m : Model) → held_in (book_of m) ≡ m.held

@@ -136,8 +136,8 @@ impl Book {
     }
 
     // The book on a day, without what is forgotten by then.
-    fn on(&self, day: u32) -> Self
-        ensures { result ≡ on_day self.now day }
+    fn on(self, day: u32) -> Self
+        ensures { result ≡ on_day self day }
     {
         let mut kept = Self::empty(day);
         for entry in self.filled() {
@@ -162,8 +162,8 @@ impl Book {
 
     // The book after a take.
     #[tactic(auto, using(crate::proofs::Taking::too_large, crate::proofs::Taking::too_early))]
-    fn after(&self, entry: Entry) -> Result<Self, Refusal>
-        ensures { told self.now result ≡ taken_of self.now entry }
+    fn after(self, entry: Entry) -> Result<Self, Refusal>
+        ensures { told self result ≡ taken_of self entry }
     {
         if is_too_large(entry) {
             return Err(Refusal::TooLarge);

@@ -16,15 +16,15 @@ returns-then-is_full c =
 
 pub put-requires : goal.put-requires
 put-requires c =
-    let long : length c.args.self.now.places ≡ 200 = search (rules, unmapped) in
-    has_room c.args.self.now c.args.entry
+    let long : length c.args.self.places ≡ 200 = search (rules, unmapped) in
+    has_room c.args.self c.args.entry
     (asked c.is_too_large.ensures c.if-is_too_large.false c.if-entry-self.false c.on-kept.ensures c.holds.ensures)
     long
     (eqb-false _ 200 (sym c.is_full.ensures ∙ c.if-is_full.false))
 
 pub returns : goal.returns
 returns c =
-    let long : length c.args.self.now.places ≡ 200 = search (rules, unmapped) in
+    let long : length c.args.self.places ≡ 200 = search (rules, unmapped) in
     tells_taken _ _ (asked c.is_too_large.ensures c.if-is_too_large.false c.if-entry-self.false c.on-kept.ensures c.holds.ensures)
     long
     (eqb-false _ 200 (sym c.is_full.ensures ∙ c.if-is_full.false))

@@ -19,8 +19,8 @@ room day es i kept e h = omega (arith, ap (λ (b : Book). b.held) e, held_few da
 pub put-requires : goal.put-requires
 put-requires c =
     let l = c.loop-entry in
-    let long : length c.args.self.now.places ≡ 200 = search (rules, unmapped) in
-    room c.args.day _ l.entry-index l.kept l.invariant (few c.args.self.now _ l.entry-index long c.filled-entry-items.ensures c.loop-entry-test.true)
+    let long : length c.args.self.places ≡ 200 = search (rules, unmapped) in
+    room c.args.day _ l.entry-index l.kept l.invariant (few c.args.self _ l.entry-index long c.filled-entry-items.ensures c.loop-entry-test.true)
 
 pub loop-entry-preserved : goal.loop-entry-preserved
 loop-entry-preserved c =
@@ -28,8 +28,8 @@ loop-entry-preserved c =
     let day = c.args.day in
     let es = c.filled-entry-items.result.now in
     let e = get_or es l.entry-index (entry_of 0 0 0 0) in
-    let long : length c.args.self.now.places ≡ 200 = search (rules, unmapped) in
-    let below = few c.args.self.now es l.entry-index long c.filled-entry-items.ensures c.loop-entry-test.true in
+    let long : length c.args.self.places ≡ 200 = search (rules, unmapped) in
+    let below = few c.args.self es l.entry-index long c.filled-entry-items.ensures c.loop-entry-test.true in
     let kept : c.if-not-is_forgotten.kept ≡ unless_forgotten day l.kept e =
     elim c.if-not-is_forgotten.branch [
       | then-not-is_forgotten w ↦ off_call _ c.is_forgotten.ensures w.if-not-is_forgotten.true (w.kept-is ∙ w.put.ensures)
