@@ -1,11 +1,12 @@
 -- A run of records, and what a rule says of each by its bytes: of all records of a file, or of one that came by itself.
 use Rattle.std.specs.Prelude.{ℕ, ◌+◌, ◌*◌, ◌-◌, ◌≤◌, ◌<◌, ◌≡◌, refl, Bool, true, false, cond, List, eqb, leb, length, drop}
-use Rattle.std.proofs.Common.{subst, ◌∙◌, eqb-true, leb-true, leb-false}
+use Rattle.std.proofs.Common.{sym, ap₂, subst, ◌∙◌, eqb-true, leb-true, leb-false, length-drop}
 use Rattle.std.proofs.Math.Path.{ap}
 use native.Mathlib.Omega.{arith}
 use Rattle.std.proofs.lemmas.Bool.{eqb-false}
 use Rattle.std.proofs.Math.ListN.{take}
 use Rattle.std.proofs.Math.Seq.{take_all}
+use Rattle.laws.specs.Choice.{on_eq, off_eq, on_le, off_le}
 use Rattle.laws.specs.Scan.{first}
 use Rattle.records.specs.Places.{record_at}
 use Rattle.rules.specs.Faults.{q_fault, z_fault}
@@ -19,6 +20,15 @@ use Rattle.judge.specs.declared.Breach.{Breach}
 -- how long a whole record k is, in a file with so many payments
 abbrev pub length_at : ℕ → ℕ → ℕ
 length_at payments k = cond (eqb k 0) 256 (cond (leb k payments) 768 256)
+
+pub long_q : (payments k : ℕ) → k ≡ 0 → length_at payments k ≡ 256
+long_q payments k z = sym (on_eq {x = 256} _ z refl)
+
+pub long_t : (payments k : ℕ) → (k ≡ 0 → ⊥) → k ≤ payments → length_at payments k ≡ 768
+long_t payments k z h = sym (off_eq 256 z (on_le {x = 768} 256 h refl))
+
+pub long_z : (payments k : ℕ) → (k ≡ 0 → ⊥) → payments < k → length_at payments k ≡ 256
+long_z payments k z h = sym (off_eq 256 z (off_le {y = 256} 768 h refl))
 
 -- what a rule says of record k, by its bytes: `fault_of` of Content with the record and the key handed in
 unfoldable pub slot_fault : ℕ → List ℕ → List ℕ → List ℕ → ℕ → ℕ → List ℕ → ℕ → ℕ → ℕ
@@ -45,6 +55,22 @@ pub record Lies (bytes : List ℕ) (skip payments from to : ℕ) : Type 0 where
 -- the first broken rule of the first of these records that breaks one
 abbrev pub first_in : (ℕ → ℕ → ℕ) → (ℕ → ℕ) → (ℕ → ℕ) → ℕ → ℕ → Breach
 first_in F lo hi from to = first (faulty F lo hi) (told_at F lo hi) none from to
+
+-- the slot as a part of the bytes, where they end in it and where they do not
+pub in_short : (bytes : List ℕ) (skip k at width : ℕ) → at ≡ record_at k - skip → width ≡ width_at k → length bytes - at ≤ width
+    → take (length bytes - at) (drop at bytes) ≡ slot_in bytes skip k
+unfolding slot_in
+in_short bytes skip k at width p q h =
+    take_all (length bytes - at) (drop at bytes) (omega (arith, length-drop at bytes))
+    ∙ sym (take_all width (drop at bytes) (omega (arith, length-drop at bytes)))
+    ∙ ap₂ (λ (w a : ℕ). take w (drop a bytes)) q p
+
+pub in_full : (bytes : List ℕ) (skip k at width : ℕ) → at ≡ record_at k - skip → width ≡ width_at k
+    → take (at + width - at) (drop at bytes) ≡ slot_in bytes skip k
+unfolding slot_in
+in_full bytes skip k at width p q =
+    let h : at + width - at ≡ width = omega arith in
+    ap (λ (w : ℕ). take w (drop at bytes)) h ∙ ap₂ (λ (w a : ℕ). take w (drop a bytes)) q p
 
 -- all records of a file
 pub of_file : (file : List ℕ) (k : ℕ) → slot_in file 0 k ≡ slot_at file k

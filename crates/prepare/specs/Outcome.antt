@@ -40,6 +40,11 @@ module _ (page : ℕ) (file out notes : List ℕ) (none : length (notes_of page 
   pub same_notes : Noted (notes_of page file) 0 notes notes 0
   same_notes = noted_is (sym (empty (notes_of page file) none)) (noted_none 0 notes)
 
+-- a refusal has a number
+module _ (page : ℕ) (file : List ℕ) {r : Prepared} {number rec : ℕ} (e : r ≡ not_prepared number rec) (some : 0 < number) where
+  no_zero : r.number ≡ 0 → ⊥
+  no_zero z = omega (arith, ap (λ (r : Prepared). r.number) e)
+
 -- a refusal leaves the output and the note places as they are
 module _ (page : ℕ) (file : List ℕ) (number rec : ℕ) (real : number ≡ 0 → ⊥) where
   out_kept : (out : List ℕ) → out ≡ output_after (not_prepared number rec) page file out

@@ -7,7 +7,7 @@ use Rattle.std.proofs.Math.Bool.{and_assoc, and-true, and-false}
 use Rattle.std.proofs.lemmas.Bool.{eqb-false, lt-leb}
 use Rattle.std.proofs.lemmas.List.{set-append_left}
 use Rattle.laws.specs.Choice.{both}
-use Rattle.laws.specs.Steps.{fold}
+use Rattle.laws.specs.Steps.{fold, next}
 use Rattle.charset.specs.Table.{OwnReplacement}
 use Rattle.forwarding.specs.Forwarded.{differs}
 use Rattle.forwarding.specs.Merge.{merged, becomes, accepts}
@@ -48,6 +48,13 @@ inside_more n m [] h e = refl
 inside_more n m (v ∷ ns) h e =
     let w = both (ltb (v / 256) n) (in_file n ns) e in
     rw (lt-ltb (v / 256) m (omega (arith, ltb-true (v / 256) n w.0))) (inside_more n m ns h w.1)
+
+-- the note at j, and those after it
+pub inside_next : (ns : List ℕ) (n j : ℕ) → j < length ns → in_file n (drop j ns) ≡ true
+    → (get_or ns j 0 / 256 < n) × (in_file n (drop (j + 1) ns) ≡ true)
+inside_next ns n j h e =
+    let w = both (ltb (get_or ns j 0 / 256) n) (in_file n (drop (j + 1) ns)) (rw (next ns j 0 h) at e) in
+    (ltb-true _ _ w.0, w.1)
 
 pub notes_length : (ns s : List ℕ) → length (put_notes s ns) ≡ length s
 notes_length [] s = refl

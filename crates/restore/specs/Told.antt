@@ -1,12 +1,14 @@
 -- The answer and the output by what the call found: the page, the room, the verdict, what is left to replace, and the notes.
-use Rattle.std.specs.Prelude.{ℕ, ◌+◌, ◌≤◌, ◌<◌, ◌≡◌, refl, Bool, true, false, ◌&&◌, List, [], ◌++◌, eqb, length, drop, Result, Ok, Err, IfErr, is_ok}
+use Rattle.std.specs.Prelude.{ℕ, ◌+◌, ◌≤◌, ◌<◌, ◌≡◌, refl, Bool, true, false, not, ◌&&◌, List, [], ◌++◌, eqb, length, drop, Result, Ok, Err, IfErr, is_ok}
 use Rattle.std.proofs.Common.{sym, ap, ◌∙◌, arith, ne_eqb, length-append}
+use Rattle.std.proofs.lemmas.Bool.{not-true, not-false}
 use Rattle.laws.specs.Choice.{on, off, off_eq, on_lt, off_lt, on_call, off_call, both}
 use Rattle.charset.specs.Table.{is_page, rep, rep_rep}
 use Rattle.judge.specs.Refusal.{number_of, verdict_in}
 use Rattle.judge.specs.Verdict.{verdict_of}
 use Rattle.judge.specs.declared.Refusal.{Refusal}
 use Rattle.judge.specs.declared.Totals.{Totals}
+use Rattle.judge.specs.declared.Verdict.{Verdict}
 use Rattle.forwarding.specs.Text.{text_at}
 use Rattle.forwarding.specs.Forwarded.{notes_of}
 use Rattle.forwarding.specs.Merge.{original_of, is_pair}
@@ -38,6 +40,25 @@ module _ (page : ℕ) (g ns transfer cheque : List ℕ) where
       ≡ eqb (verdict_of page g transfer cheque).number 0 && (eqb (length (notes_of page g)) 0 && notes_fit (rep page) (text_at (length g)) g 0 ns)
   unfolding is_yielded
   yielded_is = rw (pair_is, pair_alone page g)
+
+  -- the same by what was found: v is the verdict, none whether no character is left to replace, fit whether the notes fit
+  module _ {v : Verdict} (e : v ≡ verdict_of page g transfer cheque) where
+    number_is : v.number ≡ (verdict_of page g transfer cheque).number
+    number_is = ap (λ (u : Verdict). u.number) e
+
+    pub by_verdict : (v.number ≡ 0 → ⊥) → false ≡ is_yielded page g ns transfer cheque
+    unfolding is_yielded
+    by_verdict z = sym (ap (λ (t : Bool). t && is_pair page g ns) (ne_eqb _ _ (λ q. z (number_is ∙ q))))
+
+    module _ (z : v.number ≡ 0) {none : Bool} (left : (p : ℕ) → none ≡ eqb (length (notes_of p g)) 0) where
+      found_is : {t : Bool} → none ≡ t → t && notes_fit (rep page) (text_at (length g)) g 0 ns ≡ is_yielded page g ns transfer cheque
+      found_is q = sym (yielded_is ∙ rw (sym number_is ∙ z, sym (left page), q) refl)
+
+      pub by_changes : not none ≡ true → false ≡ is_yielded page g ns transfer cheque
+      by_changes q = found_is (not-true none q)
+
+      pub by_notes : {fit : Bool} → not none ≡ false → fit ≡ notes_fit (rep page) (text_at (length g)) g 0 ns → fit ≡ is_yielded page g ns transfer cheque
+      by_notes q f = f ∙ found_is (not-false none q)
 
   -- then the notes are about places of the file, and put back they give the original
   module _ (y : is_yielded page g ns transfer cheque ≡ true) where
