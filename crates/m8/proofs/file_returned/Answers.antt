@@ -31,7 +31,8 @@ payments-requires c =
     let a = c.args in
     let table = c.in-Some.ensures.cases.long in
     let lent = c.in-Some.ensures.cases.same in
-    payments_fit _ _ _ _ a.codes.now a.out.now c.in_ok-count.ensures.answer refl table c.if-out-count.false lent
+    let fit = payments_fit _ _ _ _ a.codes.now a.out.now c.in_ok-count.ensures.answer refl table c.if-out-count.false lent in
+    ((_, fit.0), fit.1)
 
 pub returns-then-count-ne0 : goal.returns-then-count-ne0
 returns-then-count-ne0 c =
