@@ -1,5 +1,5 @@
 -- Going over the payments of a file that fits: the records of the first of them are written.
-use Rattle.std.specs.Prelude.{ℕ, ◌+◌, ◌*◌, ◌-◌, ◌≤◌, ◌<◌, ◌≡◌, List, ◌∷◌, length, Some, None, refl}
+use Rattle.std.specs.Prelude.{ℕ, ◌+◌, ◌*◌, ◌-◌, ◌≤◌, ◌<◌, ◌≡◌, cond, List, [], ◌∷◌, eqb, length, Some, None, refl}
 use Rattle.std.proofs.Common.{ap, ◌∙◌, arith, length-append, sym}
 use Rattle.laws.specs.Choice.{on_eq, off_eq}
 use Rattle.laws.specs.Found.{nonzero, of_none, of_some, of_some_ne}
@@ -17,7 +17,7 @@ use Rattle.m8.specs.Record.{m8_of, code_of}
 use Rattle.m8.specs.Filed.{record_in, records_of}
 use Rattle.m8.proofs.Writing.{m8_long}
 use Rattle.m8.specs.Writing.{Left}
-use Rattle.m8.specs.Course.{Room, FiledSoFar, code_long, one, ones, flat, ones_append, ones_more, ones_long}
+use Rattle.m8.specs.Course.{Asked, Room, FiledSoFar, code_long, one, ones, flat, ones_append, ones_more, ones_long}
 
 -- of a file that fits, with n T records
 module _ (page : ℕ) (file transfer cheque codes : List ℕ) (n : ℕ) (e : structure_of file ≡ Fits n) where
@@ -78,23 +78,37 @@ module _ (page : ℕ) (file transfer cheque codes : List ℕ) (n : ℕ) (e : str
         pub turn_passed : None ≡ nonzero (rule t) → FiledSoFar page file transfer cheque codes out (k + 1) at out'
         turn_passed told = more (on_eq _ (of_none told) refl) (noted_none at out')
 
-        -- and one whose first broken rule is this one
-        module _ {first : ℕ} (told : Some first ≡ nonzero (rule t)) where
-          turn_one : R t ≡ one rule R t
-          turn_one = off_eq _ (of_some_ne told) refl
+        -- and any one, by its first broken rule
+        module _ (first : ℕ) (asked : first ≡ rule (slot_at file (k + 1))) where
+          pub turn_asked : length t ≡ 768 → Asked first codes at out'
+          turn_asked long =
+              record {
+                table = room.table;
+                real =
+                    λ f.
+                    let broken : rule t ≡ 0 → ⊥ = λ z. f (asked ∙ z) in
+                    let whole : length (one rule R t) ≡ 124 = ap length (sym (off_eq {z = R t} [] broken refl)) ∙ record_long room.table t long in (
+                      omega (arith, asked, first_above page transfer cheque (key_of (slot_at file 1)) t broken),
+                      omega (arith, asked, first_below page transfer cheque (key_of (slot_at file 1)) t),
+                      (omega (arith, h.next_is, turn_long, whole, same_room (omega arith), room.bytes), omega (arith, h.next_is, turn_long, whole, few)),
+                    );
+              }
 
-          pub turn_asked : (20 ≤ first) × (first < 36) × Left 124 at out'
-          turn_asked =
-              let whole : length (one rule R t) ≡ 124 = ap length (sym turn_one) ∙ record_long room.table t (t_found file n e (k + 1) (omega arith) (omega arith) refl) in (
-                omega (arith, of_some told, first_above page transfer cheque (key_of (slot_at file 1)) t (of_some_ne told)),
-                omega (arith, of_some told, first_below page transfer cheque (key_of (slot_at file 1)) t),
-                (omega (arith, h.next_is, turn_long, whole, same_room (omega arith), room.bytes), omega (arith, h.next_is, turn_long, whole, few)),
-              )
-
-          pub turn_filed : {at' : ℕ} {out'' : List ℕ} → Noted (m8_of page (slot_at file 0) (code_of codes first) t) at out' out'' at'
+          pub turn_filed : {at' : ℕ} {out'' : List ℕ} → Noted (cond (eqb first 0) [] (m8_of page (slot_at file 0) (code_of codes first) t)) at out' out'' at'
               → FiledSoFar page file transfer cheque codes out (k + 1) at' out''
-          turn_filed w =
-              more (ap (λ (r : ℕ). m8_of page (slot_at file 0) (code_of codes r) t) (of_some told) ∙ turn_one) w
+          turn_filed w = more (ap (λ (r : ℕ). cond (eqb r 0) [] (m8_of page (slot_at file 0) (code_of codes r) t)) asked) w
+
+        -- and one that breaks a rule, this one first
+        module _ {first : ℕ} (told : Some first ≡ nonzero (rule t)) where
+          first_real : first ≡ 0 → ⊥
+          first_real z = of_some_ne told (sym (of_some told) ∙ z)
+
+          pub broken_asked : (20 ≤ first) × (first < 36) × Left 124 at out'
+          broken_asked = (turn_asked first (of_some told) (t_found file n e (k + 1) (omega arith) (omega arith) refl)).real first_real
+
+          pub broken_filed : {at' : ℕ} {out'' : List ℕ} → Noted (m8_of page (slot_at file 0) (code_of codes first) t) at out' out'' at'
+              → FiledSoFar page file transfer cheque codes out (k + 1) at' out''
+          broken_filed w = turn_filed first (of_some told) (noted_is (off_eq [] first_real refl) w)
 
       pub turns_end : k ≤ n → n ≤ k → Noted (records_of page file transfer cheque codes) 0 out out' at
       turns_end a b =

@@ -60,8 +60,9 @@ module _ (page : ℕ) (file transfer cheque codes out : List ℕ) {s : Sorted} (
 
         -- by the table as the code lends it
         module _ {table' : List ℕ} (same : table' ≡ codes) where
-          pub payments_fit : ((n : ℕ) × (structure_of file ≡ Fits n)) × Room page file transfer cheque table' out
-          payments_fit = ((on.0, on.1.fits), record { table = ap length same ∙ table; bytes = omega (arith, room, returned_is) })
+          pub payments_fit : (structure_of file ≡ Fits (s.payments.kept + s.payments.returned)) × Room page file transfer cheque table' out
+          payments_fit =
+              (on.1.fits ∙ ap Fits (sym all), record { table = ap length same ∙ table; bytes = omega (arith, room, returned_is) })
 
           pub records_filed : {m : ℕ} {out' : List ℕ} → Noted (records_of page file transfer cheque table') 0 out out' m
               → FiledAs page file transfer cheque codes out (filed s.payments.returned) out'

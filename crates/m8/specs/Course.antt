@@ -1,23 +1,45 @@
 -- Going over the payments: the records of the first of them are written.
-use Rattle.std.specs.Prelude.{ℕ, ◌+◌, ◌*◌, ◌-◌, ◌≤◌, ◌<◌, ◌≡◌, refl, Bool, true, false, cond, List, [], ◌∷◌, ◌++◌, map, eqb, length, drop}
+use Rattle.std.specs.Prelude.{ℕ, ◌+◌, ◌*◌, ◌-◌, ◌≤◌, ◌<◌, ◌≡◌, refl, Bool, true, false, cond, List, [], ◌∷◌, ◌++◌, map, eqb, length, take, drop}
 use Rattle.std.proofs.Common.{ap, ◌∙◌, append-nil, arith, length-append, length-drop, length-take-le}
 use Rattle.std.proofs.lemmas.List.{map-append}
+use Rattle.laws.specs.Choice.{on_eq, off_eq}
 use Rattle.judge.specs.Records.{joined, AllLong}
 use Rattle.judge.specs.Apart.{slots_from}
-use Rattle.forwarding.specs.Noted.{Noted}
+use Rattle.forwarding.specs.Between.{between, between_long}
+use Rattle.forwarding.specs.Noted.{Noted, noted_none, noted_is}
 use Rattle.sorting.specs.Kept.{returned, rule_in, returned_in}
-use Rattle.m8.specs.Record.{code_of}
+use Rattle.m8.specs.Record.{m8_of, code_of}
 use Rattle.m8.specs.Filed.{record_in}
-use Rattle.m8.specs.Writing.{joined_append}
+use Rattle.m8.specs.Writing.{Left, joined_append}
 
--- what the records need: the table of codes, and room
+-- what a payment's turn needs, by its first broken rule
+pub record Asked (rule : ℕ) (codes : List ℕ) (at : ℕ) (out : List ℕ) : Type 0 where
+  pub table : length codes ≡ 96
+  pub real : (rule ≡ 0 → ⊥) → (20 ≤ rule) × (rule < 36) × Left 124 at out
+
+-- and all of them: the table of codes, and room
 pub record Room (page : ℕ) (file transfer cheque codes out : List ℕ) : Type 0 where
   pub table : length codes ≡ 96
   pub bytes : 124 * length (returned_in page file transfer cheque) ≤ length out
 
--- each of the 16 codes has six bytes
+-- each of the 16 codes has six bytes, also as the code lends it
 pub code_long : (codes : List ℕ) (rule : ℕ) → length codes ≡ 96 → rule < 36 → length (code_of codes rule) ≡ 6
 code_long codes rule l h = length-take-le 6 (drop (6 * (rule - 20)) codes) (omega (arith, length-drop (6 * (rule - 20)) codes))
+
+pub code_lent : (codes : List ℕ) (rule : ℕ) → length codes ≡ 96 → rule < 36 → length (between (6 * (rule - 20)) (6 * (rule - 20) + 6) codes) ≡ 6
+code_lent codes rule l h = omega (arith, between_long (6 * (rule - 20)) (6 * (rule - 20) + 6) codes (omega arith))
+
+-- a payment's turn: nothing is written of one that breaks no rule; of any other the record, with the code from the table
+module _ (page : ℕ) (q t codes : List ℕ) (rule : ℕ) where
+  pub nothing_filed : rule ≡ 0 → (at : ℕ) (out : List ℕ) → Noted (cond (eqb rule 0) [] (m8_of page q (code_of codes rule) t)) at out out at
+  nothing_filed z at out = noted_is (on_eq _ z refl) (noted_none at out)
+
+  pub code_filed : 20 ≤ rule → (rule ≡ 0 → ⊥) → {at next : ℕ} {out out' : List ℕ}
+      → Noted (m8_of page q (between (6 * (rule - 20)) (6 * (rule - 20) + 6) codes) t) at out out' next
+      → Noted (cond (eqb rule 0) [] (m8_of page q (code_of codes rule) t)) at out out' next
+  code_filed low f w =
+      let six : 6 * (rule - 20) + 6 - 6 * (rule - 20) ≡ 6 = omega arith in
+      noted_is (off_eq _ f (ap (λ (n : ℕ). m8_of page q (take n (drop (6 * (rule - 20)) codes)) t) six)) w
 
 -- the records of some T records, payment by payment
 module _ (rule : List ℕ → ℕ) (R : List ℕ → List ℕ) where

@@ -3,9 +3,9 @@ use Rattle.std.specs.Prelude.{ℕ, ◌+◌, ◌-◌, ◌≤◌, ◌≡◌, take}
 use Rattle.std.proofs.Common.{sym, ◌∙◌, arith, lit≤, length-append, refl, ap, List, [], ◌∷◌, ◌++◌, map, append_assoc, length}
 use Rattle.std.proofs.lemmas.List.{length-map}
 use Rattle.laws.specs.Ascii.{ascii, zeros, spaces}
-use Rattle.charset.specs.Table.{rep}
+use Rattle.charset.specs.Table.{rep, text}
 use Rattle.records.specs.Places.{◌to◌, part, line_of, q_place, t_place}
-use Rattle.records.specs.Inside.{Held, held, q_inside, t_inside}
+use Rattle.records.specs.Inside.{Held, held, inside, q_inside, t_inside}
 use Rattle.records.specs.declared.Span.{Span}
 use Rattle.records.specs.declared.QField.{QField}
 use Rattle.records.specs.declared.TField.{TField}
@@ -35,6 +35,10 @@ Left n at out = (at + n ≤ length out) × (at + n ≤ 1239876)
 -- a stretch of the output that comes back as ys; and one into which a piece was copied
 pub stretched : (w : ℕ) (ys out : List ℕ) (at : ℕ) → length ys ≡ w → Noted ys at out (back_as at (at + w) ys out) (at + w)
 stretched w ys out at l = record { next_is = omega arith; places_are = put_part at (at + w) ys out (omega arith) (omega arith) }
+
+pub appended : (piece out : List ℕ) (at : ℕ) {ys : List ℕ} → Left (length piece) at out
+    → ys ≡ piece → Noted piece at out (back_as at (at + length piece) ys out) (at + length piece)
+appended piece out at l e = noted_is e (stretched (length piece) _ out at (ap length e))
 
 -- the first seven fields, which one function writes
 abbrev pub heading_of : List ℕ → List ℕ
@@ -134,9 +138,15 @@ module _ (t : List ℕ) (l : length t ≡ 768) {s p : Span} (at : s ≡ t_place 
   line_is : p ≡ line_in
   line_is = first ∙ ap (λ (s : Span). line_of s 1) at
 
+  pub line_inside : (p.start ≤ p.end) × (p.end ≤ length t)
+  line_inside = inside line_is (lit≤ tt, lit≤ tt) l
+
   module _ {line : List ℕ} (found : line ≡ part p t) where
     is : line ≡ part line_in t
     is = found ∙ ap (λ (p : Span). part p t) line_is
 
     pub line_fits : length line ≡ 35
     line_fits = ap length is ∙ line_long t l
+
+    pub referred : (page : ℕ) {d ys : List ℕ} → d ≡ line → ys ≡ text page d → ys ≡ reference_of page t
+    referred page e r = r ∙ ap (text page) (e ∙ is)

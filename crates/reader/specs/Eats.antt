@@ -1,13 +1,14 @@
 -- Laws of feeding: any cuts, a stopped walk, a short piece, a whole record.
-use Rattle.std.proofs.Common.{ℕ, ◌+◌, ◌-◌, ◌≤◌, ◌<◌, ◌≡◌, cond, length, take, drop, ltb, eqb, refl, ap, List, [], ◌∷◌, ◌++◌, append-nil, append_assoc, sym, ◌∙◌, arith, length-append, length-take, length-drop, take-append-drop, drop-drop, take_all}
+use Rattle.std.proofs.Common.{ℕ, ◌+◌, ◌-◌, ◌≤◌, ◌<◌, ◌≡◌, cond, length, take, drop, ltb, ltb-true, eqb, refl, ap, Bool, false, not, List, [], ◌∷◌, ◌++◌, append-nil, append_assoc, sym, ◌∙◌, arith, length-append, length-take, length-drop, take-append-drop, drop-drop, take_all}
+use Rattle.std.proofs.lemmas.Bool.{not-false}
 use Rattle.std.proofs.lemmas.Bool.Decides.{nat_tests}
-use Rattle.laws.specs.Choice.{on_eq, off_eq}
+use Rattle.laws.specs.Choice.{on_eq, off_eq, both}
 use Rattle.structure.specs.Slots.{width_at}
 use Rattle.forwarding.specs.Put.{put, put_none, put_put_at}
 use Rattle.tally.specs.declared.Tally.{Tally}
-use Rattle.tally.specs.Settle.{settle_of}
+use Rattle.tally.specs.Settle.{settle_of, is_steady, Steady, steady}
 use Rattle.reader.specs.declared.Reader.{Reader}
-use Rattle.reader.specs.State.{Mid, mid, push, eat, pending, view, packed}
+use Rattle.reader.specs.State.{Mid, mid, push, eat, pending, view, packed, in_order}
 
 pub width_le : (k : ℕ) → width_at k ≤ 768
 width_le k = grind (arith, nat_tests)
@@ -77,6 +78,9 @@ module _ (stop k left w : ℕ) (e : w ≡ ready_of stop k left) where
   pub ready_go : (w ≡ 0 → ⊥) → (stop ≡ 0) × (w ≡ width_at k)
   ready_go h = grind (arith, nat_tests)
 
+  pub ready_none : w ≡ 0 → stop ≡ 0 → left < width_at k
+  ready_none h z = grind (arith, nat_tests)
+
   pub ready_le : w ≤ left
   ready_le = grind (arith, nat_tests)
 
@@ -114,6 +118,22 @@ module _ (r : Reader) (long : length r.held ≡ 768) (low : r.have ≤ 768) wher
       let z : 0 + r.have ≡ r.have = omega arith in
       ap (put r.have cut) (sym as_held)
       ∙ rw z at (put_put_at 0 r.have (pending r) cut r.held pending_long (omega arith))
+
+-- a record across cuts: nothing of it was held, or its head was
+pub no_more : (have : ℕ) (held head : List ℕ) → have ≡ 0 → head ≡ take have held ++ head
+no_more have held head z = rw z
+
+-- a state in order: the sums fit, and the unfinished record does not fill its slot
+pub record Ordered (r : Reader) : Type 0 where
+  pub fine : Steady r.tally
+  pub short : r.have < width_at r.tally.next
+  pub fits : r.have ≤ 768
+
+pub ordered : (r : Reader) {b : Bool} → b ≡ in_order r.tally r.have → not b ≡ false → Ordered r
+ordered r e n =
+    let h = both (is_steady r.tally) (ltb r.have (width_at r.tally.next)) (sym e ∙ not-false _ n) in
+    let l = ltb-true r.have (width_at r.tally.next) h.1 in
+    record { fine = steady r.tally h.0; short = l; fits = omega (arith, width_le r.tally.next) }
 
 -- the rest of a cut, from the start of a record on
 module _ {page : ℕ} (t ch : List ℕ) (r : Reader) (first : Tally) (cut : List ℕ) {tally : Tally} {at : ℕ}

@@ -1,5 +1,7 @@
 -- The reader's state, and what each call makes of it, whatever state is handed in.
-use Rattle.std.specs.Prelude.{ℕ, Result, Ok, Err, ◌+◌, min, ◌≡◌, Bool, ◌&&◌, cond, List, [], ◌∷◌, ◌++◌, eqb, ltb, length, take, replicate}
+use Rattle.std.specs.Prelude.{ℕ, Result, Ok, Err, ◌+◌, min, ◌≡◌, refl, Bool, true, false, ◌&&◌, cond, List, [], ◌∷◌, ◌++◌, eqb, ltb, length, take, replicate}
+use Rattle.std.proofs.Common.{ap, ◌∙◌}
+use Rattle.laws.specs.Choice.{on_eq, off_eq, on_call, off_call}
 use Rattle.charset.specs.Table.{is_page}
 use Rattle.fields.specs.Lists.{is_taken}
 use Rattle.structure.specs.Slots.{width_at}
@@ -132,3 +134,25 @@ EndedAs r taken read = read ≡ end_of r taken
 abbrev pub FedTo : Reader → List Cut → Reader → Type 0
 FedTo r [] last = last ≡ r
 FedTo r (cut ∷ cuts) last = (next : Reader) × FedAs r cut.bytes cut.transfer cut.cheque next × FedTo next cuts last
+
+pub new_is : (page : ℕ) {tally : Tally} {answer : Answer} → tally ≡ fresh → answer ≡ answered (refused 0 0 0) 0
+    → record { page = page; ended = 0; bytes = 0; tally = tally; answer = answer; have = 0; held = replicate 768 0 } ≡ new_of page
+unfolding new_of
+new_is page p q i =
+    record { page = page; ended = 0; bytes = 0; tally = p i; answer = q i; have = 0; held = replicate 768 0 }
+
+-- the answer at the end by what was found: v is the verdict, t whether the file's number is taken
+module _ (r : Reader) (taken : List ℕ) {v : Verdict} (e : v ≡ judged_of r) where
+  by_verdict : {a : Answer} → a ≡ or_taken_by v r.tally.number r.tally.changes taken → a ≡ found_of r taken
+  unfolding found_of
+  by_verdict h = h ∙ ap (λ (u : Verdict). or_taken_by u r.tally.number r.tally.changes taken) e
+
+  pub found_refused : (v.number ≡ 0 → ⊥) → answered v 0 ≡ found_of r taken
+  found_refused z = by_verdict (off_eq _ z refl)
+
+  module _ (z : v.number ≡ 0) {t : Bool} (p : t ≡ is_taken taken r.tally.number) where
+    pub found_taken : {a : Answer} → t ≡ true → a ≡ answered (refused 50 0 0) 0 → a ≡ found_of r taken
+    found_taken y h = by_verdict (on_eq _ z (on_call _ p y h))
+
+    pub found_free : t ≡ false → answered v r.tally.changes ≡ found_of r taken
+    found_free y = by_verdict (on_eq _ z (off_call _ p y refl))

@@ -63,6 +63,11 @@ module _ (page : ℕ) (file transfer cheque : List ℕ) (n : ℕ) (e : structure
   z_number : (z_breach page file n transfer cheque).number ≡ rule_at page file n transfer cheque (n + 1)
   z_number = ap (λ (b : Breach). b.number) z_alone ∙ one_told (fault_of page file n (euro_sum file n) transfer cheque) (rule_from n) (rule_end n) (n + 1)
 
+  pub z_told : {key : List ℕ} {sum : ℕ} {b : Breach} → key ≡ key_of (slot_at file 1) → sum ≡ euro_sum file n
+      → b ≡ first_in (run_fault page transfer cheque key n sum file 0) (rule_from n) (rule_end n) (n + 1) (n + 2)
+      → b.number ≡ rule_at page file n transfer cheque (n + 1)
+  z_told p s h = ap (λ (b : Breach). b.number) (h ∙ z_same p s) ∙ z_number
+
   z_rec : ((z_breach page file n transfer cheque).number ≡ 0 → ⊥) → (z_breach page file n transfer cheque).rec ≡ n + 1
   z_rec f =
       ap (λ (b : Breach). b.rec) z_alone

@@ -112,3 +112,7 @@ module _ (page : ℕ) (transfer cheque key t : List ℕ) (l : length t ≡ 768) 
 
   pub alone_none : None ≡ broken alone → None ≡ nonzero (first_of page transfer cheque key t)
   alone_none e = none_found (sym alone_is ∙ was_none alone e)
+
+pub alone_told : (page : ℕ) (transfer cheque key t : List ℕ) {b : Breach} → length t ≡ 768
+    → b ≡ first_in (run_fault page transfer cheque key 1 0 t 256) (rule_from 1) (rule_end 1) 1 2 → b.number ≡ first_of page transfer cheque key t
+alone_told page transfer cheque key t l e = ap (λ (b : Breach). b.number) e ∙ alone_is page transfer cheque key t l

@@ -171,7 +171,7 @@ module _ (page : ℕ) (file transfer cheque : List ℕ) (n : ℕ) (e : structure
       )
 
   module _ (k : ℕ) (l : k < n) {f : Figures} (h : CountedIn page file transfer cheque k f) where
-    counted_next : (first : ℕ) → first ≡ rule (slot_at file (k + 1))
+    pub counted_next : (first : ℕ) → first ≡ rule (slot_at file (k + 1))
         → Small f × CountedIn page file transfer cheque (k + 1) (with_one f first (slot_at file (k + 1)))
     unfolding kept_file
     counted_next first asked =

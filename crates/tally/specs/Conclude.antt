@@ -1,5 +1,5 @@
 -- What the whole records of a file tell where it ends.
-use Rattle.std.proofs.Common.{ℕ, ◌-◌, ◌≤◌, ◌<◌, ◌≡◌, cond, List, [], eqb, ltb, length, sym, ◌∙◌, arith, ap}
+use Rattle.std.proofs.Common.{ℕ, ◌-◌, ◌≤◌, ◌<◌, ◌≡◌, cond, List, [], eqb, ltb, length, refl, sym, ◌∙◌, arith, ap}
 use Prim.Native.Char.{code}
 use Rattle.std.proofs.lemmas.Bool.Decides.{nat_tests}
 use Rattle.laws.specs.Choice.{on_eq, off_eq, on_lt, off_lt}
@@ -7,6 +7,7 @@ use Rattle.structure.specs.Slots.{width_at}
 use Rattle.structure.specs.Walk.{letter_of, fault_in}
 use Rattle.structure.specs.Whole.{WholeSlot, whole}
 use Rattle.judge.specs.Verdict.{refused, sound, unless}
+use Rattle.judge.specs.declared.Breach.{Breach}
 use Rattle.judge.specs.declared.Verdict.{Verdict}
 use Rattle.tally.specs.Record.{breach_in, or_next}
 use Rattle.tally.specs.declared.Tally.{Tally}
@@ -37,6 +38,17 @@ ends_in k slot e short =
     record { later = grind (arith, nat_tests); z = grind (arith, nat_tests); long = grind (arith, nat_tests) }
 
 module _ (page : ℕ) (s : Tally) (left : List ℕ) where
+  -- the answer at a whole Z, b being the first broken rule
+  module _ {b : Breach} (e : b ≡ or_next s.broken (breach_in page [] [] s.key (s.next - 1) s.euros left s.next)) where
+    by_breach : unless b (sound (s.next - 1) s.euros s.cents) ≡ at_z page s left
+    by_breach = ap (λ (x : Breach). unless x (sound (s.next - 1) s.euros s.cents)) e
+
+    pub z_broken : {v : Verdict} → (b.number ≡ 0 → ⊥) → v ≡ refused b.number b.rec b.at → v ≡ at_z page s left
+    z_broken n h = h ∙ off_eq {y = refused b.number b.rec b.at} _ n refl ∙ by_breach
+
+    pub z_sound : b.number ≡ 0 → sound (s.next - 1) s.euros s.cents ≡ at_z page s left
+    z_sound z = on_eq {x = sound (s.next - 1) s.euros s.cents} _ z refl ∙ by_breach
+
   module _ (bytes : ℕ) {v : Verdict} where
     pub too_long : 7679744 < bytes → v ≡ refused 1 0 0 → v ≡ conclude_of page s bytes left
     unfolding conclude_of

@@ -7,7 +7,7 @@ use Rattle.structure.specs.Slots.{width_at}
 use Rattle.judge.specs.First.{faulty, told_at, none}
 use Rattle.judge.specs.Found.{broken}
 use Rattle.judge.specs.Content.{rule_from, rule_end}
-use Rattle.judge.specs.Run.{slot_fault, slot_in, run_fault, first_in, by_itself}
+use Rattle.judge.specs.Run.{length_at, slot_fault, slot_in, run_fault, first_in, by_itself}
 use Rattle.judge.specs.declared.Breach.{Breach}
 
 -- the first broken rule of record k, or none
@@ -19,6 +19,17 @@ breach_in page transfer cheque key payments euros slot k =
 -- the first fault: that so far, or else the next
 abbrev pub or_next : Breach → Breach → Breach
 or_next b next = cond (eqb b.number 0) next b
+
+pub q_width : (k : ℕ) → k ≡ 0 → width_at k ≡ 256
+q_width k z = grind (arith, nat_tests)
+
+-- Q and each T record fill their slot
+pub long_is : (k : ℕ) → width_at k ≡ length_at k k
+long_is k = grind (arith, nat_tests)
+
+-- and Z has room in its own
+pub width_low : (k : ℕ) → 256 ≤ width_at k
+width_low k = grind (arith, nat_tests)
 
 -- the first broken rule of a run of one record
 pub of_run : (page : ℕ) (transfer cheque key : List ℕ) (payments euros : ℕ) (slot : List ℕ) (k skip : ℕ) → skip ≡ record_at k

@@ -1,10 +1,11 @@
 -- What the whole records of a file have shown so far, as one more is added.
-use Rattle.std.proofs.Common.{ℕ, ◌+◌, ◌*◌, ◌≤◌, ◌≡◌, Bool, true, false, ◌&&◌, cond, List, eqb, leb, ltb, replicate, sym, ap, ◌∙◌, arith}
+use Rattle.std.proofs.Common.{ℕ, ◌+◌, ◌*◌, ◌≤◌, ◌<◌, ◌≡◌, Bool, true, false, ◌&&◌, cond, List, eqb, leb, ltb, replicate, sym, ap, ◌∙◌, arith}
 use Rattle.std.proofs.lemmas.Bool.Decides.{nat_tests}
 use Rattle.laws.specs.Choice.{on_eq, off_eq}
 use Rattle.payments.specs.Rules.{key_of}
 use Rattle.structure.specs.Walk.{fault_in}
 use Rattle.judge.specs.First.{none}
+use Rattle.judge.specs.declared.Breach.{Breach}
 use Rattle.judge.specs.Sums.{euros, cents, file_number, euros_lt, cents_lt}
 use Rattle.forwarding.specs.Text.{q_texts, t_texts}
 use Rattle.forwarding.specs.Fields.{field_changes, q_few, t_few}
@@ -106,7 +107,53 @@ module _ (page : ℕ) (transfer cheque : List ℕ) (s : Tally) (slot : List ℕ)
         changes_fit = grind (arith, nat_tests, q_few, t_few);
       }
 
+-- record 10,000 never goes on
+pub below_last : (k : ℕ) (slot : List ℕ) {stop : ℕ} → k ≤ 10000 → stop ≡ stop_at k slot → stop ≡ 0 → k < 10000
+below_last k slot h e z = grind (arith, nat_tests)
+
 module _ (page : ℕ) (transfer cheque : List ℕ) (s : Tally) (slot : List ℕ) where
+  pub told_q : {b : Breach} {n c : ℕ} → b ≡ or_next s.broken (breach_in page transfer cheque s.key 0 0 slot 0) → n ≡ file_number slot
+      → c ≡ field_changes q_texts slot
+      → record { next = 1; stop = s.stop; broken = b; number = n; euros = s.euros; cents = s.cents; changes = s.changes + c; key = s.key }
+      ≡ with_q page transfer cheque s slot
+  told_q p q r i =
+      record {
+        next = 1;
+        stop = s.stop;
+        broken = p i;
+        number = q i;
+        euros = s.euros;
+        cents = s.cents;
+        changes = s.changes + r i;
+        key = s.key;
+      }
+
+  pub told_t : {key : List ℕ} {b : Breach} {e c n : ℕ} → key ≡ key_at s.next s.key slot
+      → b ≡ or_next s.broken (breach_in page transfer cheque key s.next 0 slot s.next) → e ≡ euros slot → c ≡ cents slot
+      → n ≡ field_changes t_texts slot
+      → record {
+        next = s.next + 1;
+        stop = s.stop;
+        broken = b;
+        number = s.number;
+        euros = s.euros + e;
+        cents = s.cents + c;
+        changes = s.changes + n;
+        key = key;
+      }
+      ≡ with_t page transfer cheque s slot
+  told_t k p e c n i =
+      record {
+        next = s.next + 1;
+        stop = s.stop;
+        broken = (p ∙ ap (λ (key : List ℕ). or_next s.broken (breach_in page transfer cheque key s.next 0 slot s.next)) k) i;
+        number = s.number;
+        euros = s.euros + e i;
+        cents = s.cents + c i;
+        changes = s.changes + n i;
+        key = k i;
+      }
+
   module _ {stop : ℕ} (e : stop ≡ stop_at s.next slot) where
     pub settled_stop : (stop ≡ 0 → ⊥) → stopped s stop ≡ settle_of page transfer cheque s slot
     unfolding settle_of

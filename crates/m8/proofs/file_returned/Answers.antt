@@ -23,15 +23,15 @@ returns-in_default c =
 pub returns-then-out-count : goal.returns-then-out-count
 returns-then-out-count c =
     let a = c.args in
-    let table = c.in-Some.ensures.cases.long in
-    room_refused _ _ _ _ a.codes.now a.out.now c.in_ok-count.ensures.answer refl table c.if-out-count.true refl
+    room_refused _ _ _ _ a.codes.now a.out.now c.in_ok-count.ensures.answer refl (grind arith) c.if-out-count.true refl
 
 pub payments-requires : goal.payments-requires
 payments-requires c =
     let a = c.args in
     let table = c.in-Some.ensures.cases.long in
     let lent = c.in-Some.ensures.cases.same in
-    payments_fit _ _ _ _ a.codes.now a.out.now c.in_ok-count.ensures.answer refl table c.if-out-count.false lent
+    let fit = payments_fit _ _ _ _ a.codes.now a.out.now c.in_ok-count.ensures.answer refl table c.if-out-count.false lent in
+    ((_, fit.0), fit.1)
 
 pub returns-then-count-ne0 : goal.returns-then-count-ne0
 returns-then-count-ne0 c =

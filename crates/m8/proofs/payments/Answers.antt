@@ -6,7 +6,7 @@ use Rattle.sorting.specs.Kept.{rule_in}
 use Rattle.sorting.specs.Frame.{fit, sized, turns_count, turn_slot, turn_told, q_there, t_there}
 use Rattle.m8.specs.Record.{m8_of, code_of}
 use Rattle.m8.specs.Course.{FiledSoFar}
-use Rattle.m8.proofs.Course.{turn_passed, turn_asked, turn_filed, turns_end}
+use Rattle.m8.proofs.Course.{turn_passed, broken_asked, broken_filed, turns_end}
 use Rattle.m8.proofs.payments.Goals as goal
 use Rattle.m8.proofs.payments.Goals.{After-first_rule, in-Some, in_default}
 
@@ -42,7 +42,7 @@ pub payment-at-requires : goal.payment-at-requires
 payment-at-requires c =
     let a = c.args in
     let at = (goal.at.payment-at-requires c).After-first_rule in
-    turn_asked _ _ _ _ a.codes.now c.requires.0.0 c.requires.0.1 a.out.now c.requires.1 c.loop-t.t-index c.loop-t.invariant (more at)
+    broken_asked _ _ _ _ a.codes.now c.requires.0.0 c.requires.0.1 a.out.now c.requires.1 c.loop-t.t-index c.loop-t.invariant (more at)
     (sym c.in-Some.is ∙ told at)
 
 pub loop-t-preserved : goal.loop-t-preserved
@@ -54,7 +54,7 @@ loop-t-preserved c =
     elim c.match-first_rule.branch [
       | in-Some w ↦
           subst2 filed (sym w.at-is) (sym w.out-is)
-          (turn_filed _ _ _ _ a.codes.now c.requires.0.0 c.requires.0.1 a.out.now c.requires.1 l.t-index l.invariant (more at)
+          (broken_filed _ _ _ _ a.codes.now c.requires.0.0 c.requires.0.1 a.out.now c.requires.1 l.t-index l.invariant (more at)
           (sym w.in-Some.is ∙ told at)
           (noted_is (ap₂ (λ (q t : List ℕ). m8_of a.terms.now.page q (code_of a.codes.now w.in-Some.rule) t) c.whole-q.ensures (is at)) w.payment-at.ensures))
       | in_default w ↦
