@@ -15,8 +15,33 @@ pub const PATTERN: u8 = 170;
 
 pub const NOTE_PATTERN: u32 = 4022250974;
 
-// A line: the edge, its number and record.
-pub fn tell(
+pub fn say(rt: &impl Print, text: &[u8]) -> io::Result<()> {
+    rt.write_all(text)
+}
+
+pub fn say_number(rt: &impl Print, name: &[u8], n: u64) -> io::Result<()> {
+    say(rt, name)?;
+    rt.print(n)
+}
+
+pub fn say_answer(rt: &impl Print, edge: &[u8], number: usize, rec: usize) -> io::Result<()> {
+    say(rt, edge)?;
+    print!(rt; ": {number} at {rec}")
+}
+
+// A line: the edge, its number and record. The edge is any bytes, and the line of an empty text goes on behind them.
+pub fn tell(rt: &impl Print, edge: &[u8], number: usize, rec: usize) -> io::Result<()> {
+    say(rt, edge)?;
+    tell_text(rt, "", number, rec)
+}
+
+pub fn tell_whether(rt: &impl Print, edge: &[u8], holds: bool) -> io::Result<()> {
+    say(rt, edge)?;
+    tell_text_whether(rt, "", holds)
+}
+
+// The same of an edge that is text.
+pub fn tell_text(
     rt: &impl Print,
     edge: impl Display + Drop,
     number: usize,
@@ -25,7 +50,7 @@ pub fn tell(
     println!(rt; "{edge}: {number} at {rec}")
 }
 
-pub fn tell_whether(rt: &impl Print, edge: &str, holds: bool) -> io::Result<()> {
+pub fn tell_text_whether(rt: &impl Print, edge: &str, holds: bool) -> io::Result<()> {
     let answer = if holds { "yes" } else { "no" };
     println!(rt; "{edge}: {answer}")
 }
@@ -47,6 +72,15 @@ pub fn put(room: &mut [u8], at: usize, text: &[u8]) -> usize {
     let n = rest.len().min(text.len());
     rest[..n].copy_from_slice(&text[..n]);
     at + n
+}
+
+// Writes a number in decimal, with leading zeros, from a place up to below another, as far as there is room.
+pub fn put_number(room: &mut [u8], start: usize, end: usize, n: u64) {
+    let mut left = n;
+    for place in (start..end).rev() {
+        put(room, place, &[b'0' + (left % 10) as u8]);
+        left /= 10;
+    }
 }
 
 // Writes records one behind the other, as far as there is room.

@@ -4,7 +4,8 @@
 #![tactic(auto)]
 
 use drafts::{
-    LIST, NOTE_PATTERN, NUMBER, PATTERN, notes_untouched, put, tell, tell_whether, untouched,
+    LIST, NOTE_PATTERN, NUMBER, PATTERN, notes_untouched, put, tell_text, tell_text_whether,
+    untouched,
 };
 use std::fmt::Display;
 use std::io;
@@ -96,18 +97,18 @@ fn refused(
     notes: &mut [u32],
 ) -> io::Result<()> {
     let p = prepare::strict(page, file, &LIST, &LIST, out, notes);
-    tell(rt, edge, p.number, p.rec)?;
-    tell_whether(rt, "  output untouched", untouched(out))?;
-    tell_whether(rt, "  note places untouched", notes_untouched(notes))
+    tell_text(rt, edge, p.number, p.rec)?;
+    tell_text_whether(rt, "  output untouched", untouched(out))?;
+    tell_text_whether(rt, "  note places untouched", notes_untouched(notes))
 }
 
 fn ample(rt: &impl Print, file: &[u8]) -> io::Result<()> {
     let mut out = [PATTERN; 2050];
     let mut notes = [NOTE_PATTERN; 3];
     let p = prepare::strict(0, file, &LIST, &LIST, &mut out, &mut notes);
-    tell(rt, "ample room", p.number, p.rec)?;
-    tell_whether(rt, "  output behind untouched", untouched(&out[2048..]))?;
-    tell_whether(
+    tell_text(rt, "ample room", p.number, p.rec)?;
+    tell_text_whether(rt, "  output behind untouched", untouched(&out[2048..]))?;
+    tell_text_whether(
         rt,
         "  note places behind untouched",
         notes_untouched(&notes[2..]),
@@ -118,7 +119,7 @@ fn exact(rt: &impl Print, file: &[u8]) -> io::Result<()> {
     let mut out = [PATTERN; 2048];
     let mut notes = [NOTE_PATTERN; 2];
     let p = prepare::strict(0, file, &LIST, &LIST, &mut out, &mut notes);
-    tell(rt, "exact room", p.number, p.rec)?;
+    tell_text(rt, "exact room", p.number, p.rec)?;
     restore(rt, "two notes, rising places", &out, &notes, file)?;
     notes.reverse();
     restore(rt, "two notes, falling places", &out, &notes, file)
@@ -171,11 +172,11 @@ fn restore(
 ) -> io::Result<()> {
     let mut out = [PATTERN; 2048];
     let r = restore::restore(0, forwarded, notes, &LIST, &LIST, &mut out);
-    tell(rt, edge, r.number, r.rec)?;
+    tell_text(rt, edge, r.number, r.rec)?;
     if r.number == 0 {
-        return tell_whether(rt, "  the very file is back", out.as_slice() == file);
+        return tell_text_whether(rt, "  the very file is back", out.as_slice() == file);
     }
-    tell_whether(rt, "  output untouched", untouched(&out))
+    tell_text_whether(rt, "  output untouched", untouched(&out))
 }
 
 // Document 01's example: what the judge and prepare answer of it.
@@ -188,14 +189,14 @@ fn example(rt: &impl Print, file: &[u8], out: &mut [u8]) -> io::Result<()> {
         "  payments {}, euros {}, cents {}, notes {}",
         v.payments, v.euros, v.cents, p.notes
     )?;
-    tell_whether(rt, "  its note is 316198", notes[0] == NOTE)
+    tell_text_whether(rt, "  its note is 316198", notes[0] == NOTE)
 }
 
 fn restore_edges(rt: &impl Print) -> io::Result<()> {
     let file = drafts::example(b"ANNA BEISPIEL", b"M&M STUDIO");
     let mut out = [PATTERN; 2048];
     example(rt, &file, &mut out)?;
-    tell_whether(rt, "  forwarded with a plus sign there", out[1235] == b'+')?;
+    tell_text_whether(rt, "  forwarded with a plus sign there", out[1235] == b'+')?;
     restore(rt, "its note", &out, &[NOTE], &file)?;
     restore(
         rt,

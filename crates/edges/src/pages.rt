@@ -1,7 +1,7 @@
 // The code pages (document 02, A2): what the German characters become on each, files that one page alone finds sound, and
 // numbers that are no page's.
 use crate::BLANK_LINE;
-use drafts::{LIST, NOTE_PATTERN, NUMBER, PATTERN, tell, tell_whether, untouched, with};
+use drafts::{LIST, NOTE_PATTERN, NUMBER, PATTERN, tell_text, tell_text_whether, untouched, with};
 use std::io;
 
 // The second byte of the second payee, a place of text.
@@ -111,13 +111,13 @@ fn restore_on(
     out: &mut [u8],
 ) -> io::Result<()> {
     let r = restore::restore(page, file, &[460838], &LIST, &LIST, out);
-    tell(
+    tell_text(
         rt,
         format_args!("page {page}, restore, {edge}"),
         r.number,
         r.rec,
     )?;
-    tell_whether(rt, "  output untouched", untouched(out))
+    tell_text_whether(rt, "  output untouched", untouched(out))
 }
 
 // A page that does not exist: 7, before 50 and 2, before 60 and before 70.

@@ -2,8 +2,8 @@
 use crate::draft::*;
 use crate::tell_output;
 use drafts::{
-    LIST, NOTE_PATTERN, PATTERN, notes_untouched, payment, put, put_records, tell, tell_whether,
-    with,
+    LIST, NOTE_PATTERN, PATTERN, notes_untouched, payment, put, put_records, tell_text,
+    tell_text_whether, with,
 };
 use std::{fmt, io};
 
@@ -118,9 +118,9 @@ fn strict(rt: &impl Print, file: &[u8]) -> io::Result<()> {
     let mut out = [PATTERN; 2816];
     let mut notes = [NOTE_PATTERN; 4];
     let p = prepare::strict(0, file, &LIST, &LIST, &mut out, &mut notes);
-    tell(rt, "the second of three broken, strict", p.number, p.rec)?;
+    tell_text(rt, "the second of three broken, strict", p.number, p.rec)?;
     tell_output(rt, &out, None)?;
-    tell_whether(rt, "  note places untouched", notes_untouched(&notes))
+    tell_text_whether(rt, "  note places untouched", notes_untouched(&notes))
 }
 
 // What is kept, from its forwarded file.
@@ -128,9 +128,9 @@ fn restored(rt: &impl Print, forwarded: &[u8], notes: &[u32]) -> io::Result<()> 
     let kept = first_and_third(b"M&M STUDIO");
     let mut out = [PATTERN; 2048];
     let r = restore::restore(0, forwarded, notes, &LIST, &LIST, &mut out);
-    tell(rt, "what is kept, restored", r.number, r.rec)?;
+    tell_text(rt, "what is kept, restored", r.number, r.rec)?;
     // 0.. here and below: at ..2048 the prover does not see that it ends within the array
-    tell_whether(
+    tell_text_whether(
         rt,
         "  the very file is back",
         out.as_slice() == &kept[0..2048],
@@ -278,7 +278,7 @@ fn nothing_comes_back(rt: &impl Print) -> io::Result<()> {
     let mut due = [PATTERN; 2817];
     let mut notes = [NOTE_PATTERN; 5];
     let p = prepare::strict(0, &file, &LIST, &LIST, &mut due, &mut notes);
-    tell(rt, "three sound payments, strict", p.number, p.rec)?;
+    tell_text(rt, "three sound payments, strict", p.number, p.rec)?;
     println!(rt; "  noted{}", Places(&notes))?;
     Lent::<2817, 5, 1>::new().prepare(rt, 0, "three sound payments", &file, Some(&due))?;
     Lent::<2817, 5, 0>::new().prepare(rt, 0, "three sound payments, no list", &file, Some(&due))

@@ -3,7 +3,7 @@
 
 use crate::draft::*;
 use crate::tell_output;
-use drafts::{LIST, PATTERN, put, tell_whether, untouched, with};
+use drafts::{LIST, PATTERN, put, tell_text_whether, untouched, with};
 use std::fmt::Display;
 use std::io;
 
@@ -83,7 +83,7 @@ fn one_filed(rt: &impl Print, edge: &str, file: &[u8]) -> io::Result<[u8; 249]> 
     let out = filed(rt, 0, edge, file)?;
     // 0.. here and below: at ..124 the prover does not see that it ends within the array
     tell_record(rt, &out[0..124])?;
-    tell_whether(rt, "  untouched behind", untouched(&out[124..]))?;
+    tell_text_whether(rt, "  untouched behind", untouched(&out[124..]))?;
     Ok(out)
 }
 
@@ -91,7 +91,7 @@ fn two_filed(rt: &impl Print, edge: &str, file: &[u8]) -> io::Result<[u8; 249]> 
     let out = filed(rt, 0, edge, file)?;
     tell_record(rt, &out[0..124])?;
     tell_record(rt, &out[124..248])?;
-    tell_whether(rt, "  untouched behind", untouched(&out[248..]))?;
+    tell_text_whether(rt, "  untouched behind", untouched(&out[248..]))?;
     Ok(out)
 }
 

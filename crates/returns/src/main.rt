@@ -2,7 +2,7 @@
 // (A6). Where no page is told it is page 0.
 #![tactic(auto)]
 
-use drafts::{tell_whether, untouched};
+use drafts::{tell_text_whether, untouched};
 use std::io;
 
 mod default_way;
@@ -12,8 +12,8 @@ mod filing;
 // Whether the output is as due. Where nothing is due, it is to hold the pattern that it came with.
 fn tell_output(rt: &impl Print, out: &[u8], due: Option<&[u8]>) -> io::Result<()> {
     match due {
-        Some(due) => tell_whether(rt, "  output as due, and untouched behind", out == due),
-        None => tell_whether(rt, "  output untouched", untouched(out)),
+        Some(due) => tell_text_whether(rt, "  output as due, and untouched behind", out == due),
+        None => tell_text_whether(rt, "  output untouched", untouched(out)),
     }
 }
 
