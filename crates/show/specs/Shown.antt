@@ -4,7 +4,7 @@ use Rattle.std.specs.Prelude.{ℕ, ◌+◌, ◌≤◌, ◌<◌, ◌≡◌, refl,
 use Rattle.std.proofs.Common.{sym, ap₂, ◌∙◌, arith, leb-true}
 use Rattle.std.proofs.Math.Path.{ap}
 use Rattle.std.proofs.lemmas.Bool.{eqb-false}
-use Rattle.laws.specs.Choice.{either, on_eq, off_eq, on_le}
+use Rattle.laws.specs.Choice.{either, on_eq, off_eq, on_le, off_le}
 use Rattle.records.specs.Places.{record_at, PartOf, nowhere, q_text, t_text}
 use Rattle.records.specs.Inside.{Inside, q_text_inside, t_text_inside}
 use Rattle.records.specs.declared.Span.{Span}
@@ -66,6 +66,9 @@ module _ (file : List ℕ) (k f : ℕ) where
 
     pub in_t : {at : ℕ} {s : Span} → (k ≡ 0 → ⊥) → k ≤ n → at ≡ record_at k → s ≡ t_text f → r ≡ moved at s → r ≡ shown_at file k f
     in_t z h p q m = by_shape e (off_eq _ z (on_le _ h (m ∙ ap₂ moved p q)))
+
+    pub in_none : (k ≡ 0 → ⊥) → n < k → r ≡ nowhere → r ≡ shown_at file k f
+    in_none z h m = by_shape e (off_eq _ z (off_le _ h m))
 
 pub text_inside : (f : ℕ) {s : Span} → s ≡ t_text f → Inside 768 s
 text_inside f e = rw e (t_text_inside f)
